@@ -1,0 +1,14 @@
+// Reading the records of an unpacked stream (document 01, 'Records').
+mod fault;
+mod header;
+mod kind;
+
+pub use fault::Answer;
+pub use fault::Fault;
+pub use fault::Offset;
+pub use fault::Refusal;
+pub use fault::refused;
+pub use header::Front;
+pub use header::Header;
+pub use header::first;
+pub use kind::Kind;
