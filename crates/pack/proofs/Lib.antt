@@ -1,1 +1,5 @@
 pub mod PutLaws
+pub mod RowLaws
+pub mod JudgeLaws
+pub mod LayLaws
+pub mod PackLaws

@@ -8,7 +8,7 @@ ghost use Rattle.records.specs.Records.{leadOf, headerWord, headerOf, encodeOne
 ghost use Rattle.pack.specs.Rows.{recordOf};
 
 // How many bytes a header takes before a body of this length.
-fn lead(length: usize) -> usize
+pub fn lead(length: usize) -> usize
     ensures { λ r. ⌜ (r ≡ leadOf length) × (r ≤ 8) ⌝ }
 {
     if length < 4095 { 4 } else { 8 }
