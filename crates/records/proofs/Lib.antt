@@ -1,3 +1,4 @@
 pub mod HeaderLaws
 pub mod ReadingLaws
 pub mod ScanLaws
+pub mod TableLaws
