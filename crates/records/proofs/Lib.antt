@@ -2,3 +2,4 @@ pub mod HeaderLaws
 pub mod ReadingLaws
 pub mod ScanLaws
 pub mod TableLaws
+pub mod Reader

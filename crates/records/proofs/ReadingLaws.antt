@@ -13,7 +13,7 @@ use lib.Seq.{take-at, drop-at, take-add, drop-drop, getD-take, getD-drop}
 use borrow.Author.Tests.{lt-ltb, le-ltb, eq-eqb, ne-eqb}
 use Rattle.numbers.specs.Little.{little, bytesOf, Bytes, span}
 use Rattle.numbers.proofs.LittleLaws.{bytes-drop, little-small, length-bytesOf, little-bytesOf, bytesOf-little, part-rest}
-use Rattle.records.specs.Records.{Rec, headerWord, leadOf, headerOf, encodeOne, encode, size, Obeys, Lawful}
+use Rattle.records.specs.Records.{Rec, headerWord, leadOf, headerOf, encodeOne, encode, size, Obeys, Lawful, Encodes}
 use Rattle.records.specs.Reading.{Stands, whole, fault, guard, bodyAt, longAt, wordAt, standsAt, frontOf, Read, onto, readFrom, readAll}
 use Rattle.records.specs.declared.fault.Fault.{Fault}
 use Rattle.records.specs.declared.header.Header.{Header}
@@ -294,10 +294,6 @@ read-encode cap (r ∷ rs) l =
     ∙ ap (onto r) (read-encode (r .level + 1) rs (l .1))
 
 -- ---- encoding what was read: n bounds the length
-
-pub record Encodes (cap : ℕ) (s : List ℕ) (rs : List Rec) : Type 0 where
-  pub lawful : Lawful cap rs
-  pub stream : encode rs ≡ s
 
 unstopped : (f : Fault) → some f ≡ none → ⊥
 unstopped f e = let z : _≡_ {A = ℕ} 0 1 = cc in omega arith
