@@ -12,10 +12,13 @@ use lib.ListN.{length, getD, take, drop, length-append, length-drop, take-append
 use lib.Seq.{take-at, drop-at, take-add, drop-drop, getD-take, getD-drop}
 use borrow.Author.Tests.{lt-ltb, le-ltb, eq-eqb, ne-eqb}
 use Rattle.numbers.specs.Little.{little, bytesOf, Bytes, span}
-use Rattle.numbers.proofs.LittleLaws.{bytes-drop, little-small, length-bytesOf, little-bytesOf, bytesOf-little}
-use Rattle.records.specs.Records.{Rec, headerWord, leadOf, headerOf, encodeOne, encode, size, Obeys, Lawful}
+use Rattle.numbers.proofs.LittleLaws.{bytes-drop, little-small, length-bytesOf, little-bytesOf, bytesOf-little, part-rest}
+use Rattle.records.specs.Records.{Rec, headerWord, leadOf, headerOf, encodeOne, encode, size, Obeys, Lawful, Encodes}
 use Rattle.records.specs.Reading.{Stands, whole, fault, guard, bodyAt, longAt, wordAt, standsAt, frontOf, Read, onto, readFrom, readAll}
 use Rattle.records.specs.declared.fault.Fault.{Fault}
+use Rattle.records.specs.declared.header.Header.{Header}
+use Rattle.records.specs.declared.header.Front.{Front}
+use Rattle.records.specs.declared.header.Front.the-variants as H
 use Rattle.records.proofs.HeaderLaws.{lead-short, lead-long, lead-bounds, length-part}
 
 -- ---- the 32 bits of a header
@@ -292,10 +295,6 @@ read-encode cap (r ∷ rs) l =
 
 -- ---- encoding what was read: n bounds the length
 
-pub record Encodes (cap : ℕ) (s : List ℕ) (rs : List Rec) : Type 0 where
-  pub lawful : Lawful cap rs
-  pub stream : encode rs ≡ s
-
 unstopped : (f : Fault) → some f ≡ none → ⊥
 unstopped f e = let z : _≡_ {A = ℕ} 0 1 = cc in omega arith
 
@@ -343,3 +342,95 @@ encode-read-within (suc n) cap s h bs e =
 
 pub encode-read : (cap : ℕ) (s : List ℕ) → Bytes s → readFrom cap 0 s .stop ≡ none → Encodes cap s (readFrom cap 0 s .recs)
 encode-read cap s bs e = encode-read-within (length s) cap s (omega arith) bs e
+
+-- ---- the records that are read lie within the stream: n bounds its length
+
+prefix-by : (cap : ℕ) (s : List ℕ) (a : Stands) → standsAt cap s ≡ a → Bytes s → 0 < length s
+    → ((r : Rec) → standsAt cap s ≡ whole r → length (encode (readFrom (r .level + 1) 0 (drop (size r) s) .recs)) ≤ length (drop (size r) s))
+    → length (encode (readFrom cap 0 s .recs)) ≤ length s
+unfolding encode onto
+prefix-by cap s (fault f) q bs h rest = rw (read-stop cap s f h q) (omega arith)
+prefix-by cap s (whole r) q bs h rest =
+    let k = found cap s bs r q in
+    let ih = rest r q in
+    rw (read-next cap s r h q)
+    (omega (arith, k .inside, length-drop (size r) s, encode-length r (encode (readFrom (r .level + 1) 0 (drop (size r) s) .recs))))
+
+prefix-within : (n cap : ℕ) (s : List ℕ) → length s ≤ n → Bytes s → length (encode (readFrom cap 0 s .recs)) ≤ length s
+unfolding encode
+prefix-within zero cap s h bs = rw (read-end cap s (omega arith)) (omega arith)
+prefix-within (suc n) cap s h bs =
+    elim (decLe (length s) 0) [
+      | yes g ↦ rw (read-end cap s (omega arith)) (omega arith)
+      | no g ↦
+          let m : 0 < length s = lt-of-not-le g in
+          prefix-by cap s (standsAt cap s) refl bs m
+          (λ r q. prefix-within n (r .level + 1) (drop (size r) s) (omega (arith, length-drop (size r) s, size-least r)) (bytes-drop (size r) s bs))
+    ]
+
+pub read-prefix : (cap : ℕ) (s : List ℕ) → Bytes s → length (encode (readFrom cap 0 s .recs)) ≤ length s
+read-prefix cap s bs = prefix-within (length s) cap s (omega arith) bs
+
+-- ---- a pass over a stream: what is known where a header was read at `at`
+
+-- a header's numbers, 0 of a refusal
+abbrev numbers : (Header → ℕ) → Front → ℕ
+numbers f (H.Record h) = f h
+numbers f (H.Refused r) = 0
+
+pub record Here (s : List ℕ) (at cap : ℕ) (h : Header) : Type 0 where
+  pub rec : Rec
+  pub stands : standsAt cap (drop at s) ≡ whole rec
+  pub tag-is : h .tag ≡ rec .tag
+  pub level-is : h .level ≡ rec .level
+  pub lead-is : h .lead ≡ leadOf (length (rec .body))
+  pub length-is : h .length ≡ length (rec .body)
+  pub size-is : h .lead + h .length ≡ size rec
+  pub size-low : 4 ≤ size rec
+  pub obeys : Obeys cap rec
+  pub inside : at + size rec ≤ length s
+  pub bytes : encodeOne rec ≡ take (size rec) (drop at s)
+  pub next : readFrom cap 0 (drop at s) ≡ onto rec (readFrom (rec .level + 1) 0 (drop (at + size rec) s))
+
+module _ (s : List ℕ) (at cap : ℕ) (bs : Bytes s) (h : at < length s) where
+  some-left : 0 < length (drop at s)
+  some-left = omega (arith, length-drop at s)
+
+  here-by : (a : Stands) (k : Header) → standsAt cap (drop at s) ≡ a → frontOf a ≡ H.Record k → Here s at cap k
+  unfolding size
+  here-by (fault f) k q e = absurd (let z : _≡_ {A = ℕ} 0 1 = cc in omega arith)
+  here-by (whole r) k q e =
+      let d = found cap (drop at s) (bytes-drop at s bs) r q in
+      let t : k .tag ≡ r .tag = sym (ap (numbers (λ h. h .tag)) e) in
+      let l : k .level ≡ r .level = sym (ap (numbers (λ h. h .level)) e) in
+      let m : k .lead ≡ leadOf (length (r .body)) = sym (ap (numbers (λ h. h .lead)) e) in
+      let n : k .length ≡ length (r .body) = sym (ap (numbers (λ h. h .length)) e) in
+      record {
+        rec = r;
+        stands = q;
+        tag-is = t;
+        level-is = l;
+        lead-is = m;
+        length-is = n;
+        size-is = omega arith;
+        size-low = omega (arith, lead-bounds (length (r .body)));
+        obeys = d .obeys;
+        inside = omega (arith, d .inside, length-drop at s);
+        bytes = d .bytes;
+        next = read-next cap (drop at s) r some-left q ∙ ap (λ (l : List ℕ). onto r (readFrom (r .level + 1) 0 l)) (drop-drop (size r) at s);
+      }
+
+  -- at a header that was read from the part behind `at`
+  pub here : (k : Header) → frontOf (standsAt cap (take (length s - at) (drop at s))) ≡ H.Record k → Here s at cap k
+  here k e = here-by (standsAt cap (drop at s)) k refl (ap (λ (l : List ℕ). frontOf (standsAt cap l)) (sym (part-rest s at)) ∙ e)
+
+  stop-by : (a : Stands) (f : Fault) → standsAt cap (drop at s) ≡ a → frontOf a ≡ H.Refused f → readFrom cap 0 (drop at s) ≡ record { recs = []; stop = some f }
+  stop-by (fault g) f q e = let same : g ≡ f = cc in read-stop cap (drop at s) g some-left q ∙ rw same
+  stop-by (whole r) f q e = absurd (let z : _≡_ {A = ℕ} 0 1 = cc in omega arith)
+
+  pub stops-here : (f : Fault) → frontOf (standsAt cap (take (length s - at) (drop at s))) ≡ H.Refused f
+      → readFrom cap 0 (drop at s) ≡ record { recs = []; stop = some f }
+  stops-here f e = stop-by (standsAt cap (drop at s)) f refl (ap (λ (l : List ℕ). frontOf (standsAt cap l)) (sym (part-rest s at)) ∙ e)
+
+pub ends-here : (s : List ℕ) (at cap : ℕ) → length s ≤ at → readFrom cap 0 (drop at s) ≡ record { recs = []; stop = none }
+ends-here s at cap h = read-end cap (drop at s) (omega (arith, length-drop at s))
