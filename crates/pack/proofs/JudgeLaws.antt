@@ -10,12 +10,13 @@ use Rattle.records.specs.declared.fault.Fault.{Fault}
 use Rattle.records.specs.declared.fault.Fault.the-variants as F
 use Rattle.records.specs.Records.{leadOf, encode}
 use Rattle.records.specs.Table.{shortest}
+use Rattle.records.proofs.ScanLaws.{length-encode}
 use Rattle.pack.specs.Rows.{Row, rowOf, rows, pointed, records}
 use Rattle.pack.specs.Packing.{refusedAt, verdict, rowByRow, closing, rowsAnswer, packAnswer}
 use Rattle.pack.specs.declared.judge.Verdict.{Verdict}
 use Rattle.pack.specs.declared.judge.Verdict.the-variants as Ver
 use Rattle.pack.specs.declared.judge.Packed.{Packed}
-use Rattle.pack.proofs.RowLaws.{from, from-next, from-end, sound, row-next, row-stop, row-end, closing-capped, size-pointed, length-next}
+use Rattle.pack.proofs.RowLaws.{from, from-next, from-end, sound, row-next, row-stop, row-end, closing-capped, size-pointed}
 
 -- where the first pass stands at its loop's head: the rows from i on, with the total so far, answer for all
 pub record Judging (t l p q bytes : List ℕ) (n i cap total : ℕ) : Type 0 where
@@ -54,7 +55,7 @@ module _ (t l p q bytes : List ℕ) (n : ℕ) where
         let more
         : length (encode (records bytes (from n t l p q i))) ≡ leadOf (getD q i 0) + getD q i 0 + length (encode (records bytes (from n t l p q (i + 1))))
         = ap (λ (rs : List Row). length (encode (records bytes rs))) (from-next n t l p q i h)
-        ∙ length-next (pointed bytes (at i)) (records bytes (from n t l p q (i + 1)))
+        ∙ length-encode (pointed bytes (at i)) (records bytes (from n t l p q (i + 1)))
         ∙ ap (λ (m : ℕ). m + length (encode (records bytes (from n t l p q (i + 1))))) size-is in
         record {
           reached = omega arith;

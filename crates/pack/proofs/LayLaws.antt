@@ -10,9 +10,10 @@ use Rattle.numbers.specs.Little.{laid}
 use Rattle.records.specs.Records.{Rec, encode, encodeOne, size}
 use Rattle.records.specs.Table.{written}
 use Rattle.records.proofs.ReadingLaws.{length-encodeOne}
+use Rattle.records.proofs.ScanLaws.{length-encode}
 use Rattle.pack.specs.Rows.{recordOf, Row, rowOf, rows, pointed, records, Inside}
 use Rattle.pack.proofs.PutLaws.{sets-append, laid-at}
-use Rattle.pack.proofs.RowLaws.{from, from-next, from-end, length-next}
+use Rattle.pack.proofs.RowLaws.{from, from-next, from-end}
 
 -- where the second pass stands at its loop's head
 pub record Laying (t l p q bytes out₀ : List ℕ) (n : ℕ) (out : List ℕ) (i at : ℕ) : Type 0 where
@@ -42,7 +43,7 @@ module _ (t l p q bytes out₀ : List ℕ) (n : ℕ) where
 
   module _ (out : List ℕ) (i at : ℕ) (h : i < n) (k : Laying t l p q bytes out₀ n out i at) where
     more : length (encode (left i)) ≡ size (pointed bytes (at-row i)) + length (encode (left (i + 1)))
-    more = ap (λ (rs : List Row). length (encode (records bytes rs))) (from-next n t l p q i h) ∙ length-next (pointed bytes (at-row i)) (left (i + 1))
+    more = ap (λ (rs : List Row). length (encode (records bytes rs))) (from-next n t l p q i h) ∙ length-encode (pointed bytes (at-row i)) (left (i + 1))
 
     pub row-inside : Inside (length bytes) (at-row i ∷ from n t l p q (i + 1))
     row-inside = rw (from-next n t l p q i h) at (k .inside)

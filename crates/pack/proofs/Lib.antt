@@ -3,3 +3,5 @@ pub mod RowLaws
 pub mod JudgeLaws
 pub mod LayLaws
 pub mod PackLaws
+pub mod RoundLaws
+pub mod RoundTrip

@@ -5,19 +5,17 @@ use native.Mathlib.Decide.{decLe}
 use native.Mathlib.Nat.{lt-of-not-le, add-zero}
 use mathlib.Core.Path.{_≡_, refl, sym, ap, _∙_, subst}
 use mathlib.Core.Bool.{Bool, true, false, cond, not}
-use mathlib.Core.List.{List, [], _∷_, map}
+use mathlib.Core.List.{List, [], _∷_}
 use lib.Dec.{T, ltb, nltb→le}
-use lib.ListN.{length, getD, take, drop, length-append}
+use lib.ListN.{length, getD, drop}
 use lib.Seq.{getD-drop, drop-drop}
 use borrow.Author.Tests.{lt-ltb, le-ltb}
 use Rattle.records.specs.declared.fault.Fault.{Fault}
 use Rattle.records.specs.declared.fault.Fault.the-variants as F
-use Rattle.records.specs.Records.{Rec, limit, leadOf, encode, encodeOne, size, Obeys, Lawful}
-use Rattle.records.specs.Table.{shortest}
+use Rattle.records.specs.Records.{limit, leadOf, size}
 use Rattle.records.proofs.HeaderLaws.{length-part}
-use Rattle.records.proofs.ReadingLaws.{length-encodeOne}
-use Rattle.pack.specs.Rows.{recordOf, Row, rowOf, rows, pointed, records, Inside}
-use Rattle.pack.specs.Packing.{refusedAt, verdict, rowByRow, closing, rowsAnswer, packAnswer, Sound, SoundRows}
+use Rattle.pack.specs.Rows.{Row, rowOf, rows, pointed}
+use Rattle.pack.specs.Packing.{refusedAt, verdict, rowByRow, closing, Sound}
 use Rattle.pack.specs.declared.judge.Verdict.{Verdict}
 use Rattle.pack.specs.declared.judge.Verdict.the-variants as Ver
 use Rattle.pack.specs.declared.judge.Packed.{Packed}
@@ -128,7 +126,3 @@ closing-capped room n =
 pub size-pointed : (bytes : List ℕ) (r : Row) → r .place + r .length ≤ length bytes → size (pointed bytes r) ≡ leadOf (r .length) + r .length
 unfolding size
 size-pointed bytes r h = simp (length-part bytes (r .place) (r .length) h)
-
-pub length-next : (r : Rec) (rs : List Rec) → length (encode (r ∷ rs)) ≡ size r + length (encode rs)
-unfolding encode
-length-next r rs = simp (length-append, length-encodeOne)
