@@ -11,7 +11,7 @@ ghost use Rattle.pack.specs.Rows.{recordOf};
 pub fn lead(length: usize) -> usize
     ensures { λ r. ⌜ (r ≡ leadOf length) × (r ≤ 8) ⌝ }
 {
-    if length < 4095 { 4 } else { 8 }
+    if 4095 <= length { 8 } else { 4 }
 }
 
 // The 32 bits of a header.
