@@ -79,12 +79,14 @@ fn same<T: Pattern>(name: &str, found: &Lent<T>, asked: &Lent<T>, differences: &
     }
 }
 
-/// The tag of the header at the place of a refusal that names a record.
+/// The tag of the header at the place of a refusal, for numbers that name records of several tags.
 fn tag_at(stream: &[u8], answer: u64) -> Option<u32> {
     let place = place_of(answer);
     let header = stream.get(place..place + 4)?;
-    let named = matches!(number_of(answer), 8..=17 | 22..=24);
-    named.then(|| (u32::from(header[0]) | u32::from(header[1]) << 8) & 1023)
+    let absent = number_of(answer) == 16 && place == 0;
+    let several = matches!(number_of(answer), 9 | 11 | 13 | 16 | 17);
+    let tag = (u32::from(header[0]) | u32::from(header[1]) << 8) & 1023;
+    (several && !absent).then_some(tag)
 }
 
 const LIST_NAMES: [&str; 4] = ["tags", "levels", "places", "lengths"];

@@ -40,6 +40,11 @@ fn words() -> Result<Words, String> {
 fn linked(service: Service) -> bool {
     match service {
         Service::Read | Service::Pack => true,
+        Service::DocInfo => cfg!(feature = "docinfo"),
+        Service::Section => cfg!(feature = "section"),
+        Service::Check | Service::FieldText | Service::Fill | Service::TwoFills => {
+            cfg!(feature = "host")
+        }
     }
 }
 
