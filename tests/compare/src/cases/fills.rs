@@ -202,38 +202,42 @@ fn filled_to(random: &mut Random, result: usize) -> (Vec<u8>, Filling) {
 }
 
 /// The number of kinds of long fills.
-pub const LONG_KINDS: usize = 6;
+pub const LONG_KINDS: usize = 8;
 
-/// A long section with a field.
-fn long_section(random: &mut Random, which: usize) -> (Vec<u8>, Filling) {
-    let mut filling = Filling {
-        id: 0,
+/// A long section, a filling of a field, and the length of a sheet.
+fn long_fill(random: &mut Random, which: usize) -> (Vec<u8>, Filling, usize) {
+    let near = LIMIT + random.from_to(0, 4) - 2;
+    let (result, sheet) = match which % LONG_KINDS {
+        0 => (LIMIT, LIMIT),
+        1 => (LIMIT + 1, LIMIT + 10),
+        2 => (LIMIT + 1, 100),
+        3 => (LIMIT, LIMIT - 1),
+        4 => (near, LIMIT + 10),
+        which => return long_section(random, which),
+    };
+    let (section, filling) = filled_to(random, result);
+    (section, filling, sheet)
+}
+
+/// A section of many paragraphs, or of many records below deep ones, or one over the limit.
+fn long_section(random: &mut Random, which: usize) -> (Vec<u8>, Filling, usize) {
+    let (section, ids) = match which {
+        5 => (hostile(random, LIMIT), vec![0]),
+        6 => {
+            let length = LIMIT - random.from_to(1000, 3000);
+            real(random, length)
+        }
+        _ => real(random, LIMIT + 1),
+    };
+    let filling = Filling {
+        id: random.pick(&ids),
         value: units_to_bytes(&plain_text(random, 5)),
     };
-    match which % LONG_KINDS {
-        0 => filled_to(random, LIMIT),
-        1 => filled_to(random, LIMIT + 1),
-        2 => {
-            let result = LIMIT + random.from_to(0, 4) - 2;
-            filled_to(random, result)
-        }
-        3 => (hostile(random, LIMIT), filling),
-        4 => {
-            let length = LIMIT - random.from_to(1000, 3000);
-            let (section, ids) = real(random, length);
-            filling.id = random.pick(&ids);
-            (section, filling)
-        }
-        _ => {
-            let (section, ids) = real(random, LIMIT + 1);
-            filling.id = random.pick(&ids);
-            (section, filling)
-        }
-    }
+    (section, filling, LIMIT)
 }
 
 pub fn long_field_text_case(random: &mut Random, which: usize) -> Case {
-    let (section, filling) = long_section(random, which);
+    let (section, filling, _) = long_fill(random, which);
     Case::FieldText {
         section,
         id: filling.id,
@@ -241,8 +245,7 @@ pub fn long_field_text_case(random: &mut Random, which: usize) -> Case {
 }
 
 pub fn long_fill_case(random: &mut Random, which: usize) -> Case {
-    let (section, filling) = long_section(random, which);
-    let sheet = random.pick(&[LIMIT, LIMIT, LIMIT + 10, LIMIT - 1, 100]);
+    let (section, filling, sheet) = long_fill(random, which);
     Case::Fill {
         section,
         filling,
