@@ -28,7 +28,9 @@ struct Span {
 
 /// The fields of a section with the id, in search order.
 fn fields_with<'a>(section: &'a Section<'a>, id: u32) -> impl Iterator<Item = Field<'a>> + 'a {
-    section.paragraphs.iter().flat_map(move |paragraph| {
+    let holding = |paragraph: &&Paragraph| !paragraph.controls.is_empty();
+    let paragraphs = section.paragraphs.iter().filter(holding);
+    paragraphs.flat_map(move |paragraph| {
         extended(section.text(paragraph))
             .zip(&paragraph.controls)
             .filter(|((_, code), _)| *code == FIELD)

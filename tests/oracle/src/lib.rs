@@ -12,5 +12,5 @@ pub use answer::{answer, Refusal};
 pub use docinfo::read_docinfo;
 pub use fields::{field_text, fill};
 pub use lister::list;
-pub use records::{pack, read, Row, LIMIT};
+pub use records::{pack, read, read_into, Row, LIMIT};
 pub use section::{check, read_section};

@@ -95,16 +95,24 @@ fn read_record(stream: &[u8], at: usize, before: Option<u32>) -> Result<Row, Ref
     })
 }
 
+/// Visits every record of the stream, up to the first refusal; 7 is not asked. Gives the record count.
+fn each_record(stream: &[u8], mut visit: impl FnMut(usize, Row)) -> Result<usize, Refusal> {
+    demand(stream.len() <= LIMIT, 1, 0)?;
+    let (mut at, mut count, mut before) = (0, 0, None);
+    while at < stream.len() {
+        let row = read_record(stream, at, before)?;
+        visit(count, row);
+        at = row.end();
+        before = Some(row.level);
+        count += 1;
+    }
+    Ok(count)
+}
+
 /// Every record of the stream, or the first refusal; 7 is not asked.
 pub fn tile(stream: &[u8]) -> Result<Vec<Row>, Refusal> {
-    demand(stream.len() <= LIMIT, 1, 0)?;
     let mut rows: Vec<Row> = Vec::new();
-    let mut at = 0;
-    while at < stream.len() {
-        let row = read_record(stream, at, rows.last().map(|row| row.level))?;
-        at = row.end();
-        rows.push(row);
-    }
+    each_record(stream, |_, row| rows.push(row))?;
     Ok(rows)
 }
 
@@ -115,6 +123,25 @@ pub fn read(stream: &[u8], room: usize) -> Result<Vec<Row>, Refusal> {
         Some(row) => refuse(7, row.header()),
         None => Ok(rows),
     }
+}
+
+/// Read into four lent lists (tags, levels, places, lengths): one pass judges, a second writes.
+pub fn read_into(stream: &[u8], lists: [&mut [u32]; 4]) -> Result<usize, Refusal> {
+    let room = lists.iter().map(|list| list.len()).min().unwrap_or(0);
+    let mut over = 0;
+    let count = each_record(stream, |index, row| {
+        if index == room {
+            over = row.header();
+        }
+    })?;
+    demand(count <= room, 7, over)?;
+    let [tags, levels, places, lengths] = lists.map(|list| &mut list[..count]);
+    each_record(stream, |index, row| {
+        tags[index] = row.tag;
+        levels[index] = row.level;
+        places[index] = row.place;
+        lengths[index] = row.length;
+    })
 }
 
 /// Pack: writes `count` records whose bodies stand in `bytes`, and gives the length written.

@@ -1,8 +1,8 @@
 //! Sections: where the records of a paragraph stand, and the rules of each paragraph.
 
-use crate::answer::{demand, Refusal};
+use crate::answer::{demand, refuse, Refusal};
 use crate::records::{half, read, tile, word, Row};
-use crate::text::{extended, text_rules, FIELD};
+use crate::text::{text_rules, FIELD};
 
 pub const PARAGRAPH: u32 = 66;
 pub const TEXT: u32 = 67;
@@ -174,11 +174,14 @@ impl Section<'_> {
         Ok(())
     }
 
-    /// 12: the text rules.
-    fn rule_12(&self, paragraph: &Paragraph) -> Result<(), Refusal> {
+    /// 12: the text rules. Gives the codes of the extended controls.
+    fn rule_12(&self, paragraph: &Paragraph) -> Result<Vec<u16>, Refusal> {
         match paragraph.child(TEXT) {
-            Some(index) => demand(text_rules(self.body(index)), 12, self.place(index)),
-            None => Ok(()),
+            Some(index) => match text_rules(self.body(index)) {
+                Some(codes) => Ok(codes),
+                None => refuse(12, self.place(index)),
+            },
+            None => Ok(Vec::new()),
         }
     }
 
@@ -212,18 +215,14 @@ impl Section<'_> {
     }
 
     /// 14: as many extended controls as control headers.
-    fn rule_14(&self, paragraph: &Paragraph) -> Result<(), Refusal> {
-        let found = extended(self.text(paragraph)).count();
-        demand(
-            found == paragraph.controls.len(),
-            14,
-            self.place(paragraph.header as usize),
-        )
+    fn rule_14(&self, paragraph: &Paragraph, codes: &[u16]) -> Result<(), Refusal> {
+        let equal = codes.len() == paragraph.controls.len();
+        demand(equal, 14, self.place(paragraph.header as usize))
     }
 
     /// 15: the control header of a field holds a field id.
-    fn rule_15(&self, paragraph: &Paragraph) -> Result<(), Refusal> {
-        for ((_, code), &control) in extended(self.text(paragraph)).zip(&paragraph.controls) {
+    fn rule_15(&self, paragraph: &Paragraph, codes: &[u16]) -> Result<(), Refusal> {
+        for (&code, &control) in codes.iter().zip(&paragraph.controls) {
             let control = control as usize;
             let good = code != FIELD || field_id_place(self.body(control)).is_some();
             demand(good, 15, self.place(control))?;
@@ -236,11 +235,11 @@ impl Section<'_> {
         let numbers = self.numbers(paragraph);
         self.rule_10(paragraph, &numbers)?;
         self.rule_11(paragraph, &numbers)?;
-        self.rule_12(paragraph)?;
+        let codes = self.rule_12(paragraph)?;
         self.rule_13_shapes(paragraph, &numbers)?;
         self.rule_13_marks(paragraph, &numbers)?;
-        self.rule_14(paragraph)?;
-        self.rule_15(paragraph)
+        self.rule_14(paragraph, &codes)?;
+        self.rule_15(paragraph, &codes)
     }
 }
 

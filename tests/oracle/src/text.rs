@@ -94,18 +94,23 @@ impl Iterator for Walk<'_> {
 }
 
 /// The text rules: every unit can be read, and 13 stands at the end and only there.
-pub fn text_rules(text: &[u8]) -> bool {
+/// Gives the codes of the extended controls where they hold.
+pub fn text_rules(text: &[u8]) -> Option<Vec<u16>> {
+    let mut codes = Vec::new();
     let mut ended = false;
     for step in walk(text) {
-        if ended || step == Step::Broken {
-            return false;
+        match step {
+            _ if ended => return None,
+            Step::Broken => return None,
+            Step::At(_, Stands::Control(Class::One, END)) => ended = true,
+            Step::At(_, Stands::Control(Class::Extended, code)) => codes.push(code),
+            Step::At(..) => {}
         }
-        ended = matches!(step, Step::At(_, Stands::Control(Class::One, END)));
     }
-    ended
+    ended.then_some(codes)
 }
 
-/// The codes of the extended controls, in order.
+/// The extended controls in order: position and code.
 pub fn extended(text: &[u8]) -> impl Iterator<Item = (usize, u16)> + '_ {
     walk(text).filter_map(|step| match step {
         Step::At(at, Stands::Control(Class::Extended, code)) => Some((at, code)),

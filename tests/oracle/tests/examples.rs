@@ -2,7 +2,7 @@
 
 use oracle::records::header_of;
 use oracle::{answer, check, field_text, fill, list, pack, read, read_docinfo, read_section};
-use oracle::{Refusal, Row, LIMIT};
+use oracle::{read_into, Refusal, Row, LIMIT};
 
 fn refused<T>(number: u8, place: usize) -> Result<T, Refusal> {
     Err(Refusal { number, place })
@@ -117,6 +117,20 @@ fn levels() {
     assert_eq!(read(&stream(&[0, 1, 0]), 9).map(|rows| rows.len()), Ok(3));
     assert_eq!(read(&stream(&[0, 2]), 9), refused(6, 4));
     assert_eq!(read(&stream(&[0, 1, 0]), 2), refused(7, 8));
+}
+
+#[test]
+fn read_into_lists() {
+    let stream = [record(20, 0, &[1, 2]), record(21, 1, &[3; 4095])].concat();
+    let mut lists = [vec![7; 2], vec![7; 3], vec![7; 2], vec![7; 4]];
+    let lent = lists.each_mut().map(Vec::as_mut_slice);
+    assert_eq!(read_into(&stream, lent), Ok(2));
+    let written: [&[u32]; 4] = [&[20, 21], &[0, 1, 7], &[4, 14], &[2, 4095, 7, 7]];
+    assert_eq!(lists, written.map(<[u32]>::to_vec));
+    let mut lists = [vec![7; 2], vec![7; 3], vec![7; 1], vec![7; 4]];
+    let lent = lists.each_mut().map(Vec::as_mut_slice);
+    assert_eq!(read_into(&stream, lent), refused(7, 6));
+    assert!(lists.concat().iter().all(|&entry| entry == 7));
 }
 
 #[test]
