@@ -8,7 +8,6 @@ fn main() {
     if std::env::var_os("CARGO_FEATURE_HOST").is_some() {
         archives.push("libhost.a");
     }
-    println!("cargo:rerun-if-changed=build.rs");
     for archive in archives {
         let path = native.join(archive);
         println!("cargo:rustc-link-arg-bins={}", path.display());

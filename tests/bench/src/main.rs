@@ -68,27 +68,38 @@ type Read = unsafe extern "C" fn(
     usize,
 ) -> u64;
 
-const RUNS: usize = 9;
+const ROUNDS: usize = 11;
 
-/// The median of several runs in milliseconds, after one that is not counted.
-fn median(mut call: impl FnMut() -> u64) -> f64 {
-    black_box(call());
-    let mut times: Vec<f64> = Vec::new();
-    for _ in 0..RUNS {
-        let from = Instant::now();
-        black_box(call());
-        times.push(from.elapsed().as_secs_f64() * 1000.0);
+/// Times each call once in each round, after one round that is not counted; gives the medians in milliseconds.
+fn medians<const N: usize>(mut calls: [&mut dyn FnMut() -> u64; N]) -> [f64; N] {
+    let mut times: [Vec<f64>; N] = [(); N].map(|()| Vec::new());
+    for round in 0..=ROUNDS {
+        for (call, times) in calls.iter_mut().zip(&mut times) {
+            let from = Instant::now();
+            black_box(call());
+            if round > 0 {
+                times.push(from.elapsed().as_secs_f64() * 1000.0);
+            }
+        }
     }
-    times.sort_by(f64::total_cmp);
-    times[RUNS / 2]
+    times.map(|mut times| {
+        times.sort_by(f64::total_cmp);
+        times[ROUNDS / 2]
+    })
 }
 
-fn copy_time(stream: &[u8]) -> f64 {
-    let mut copy = vec![0; stream.len()];
-    median(|| {
-        copy.copy_from_slice(black_box(stream));
-        u64::from(copy[copy.len() / 2])
-    })
+/// A second buffer that a stream is copied to.
+struct Copy(Vec<u8>);
+
+impl Copy {
+    fn of(stream: &[u8]) -> Copy {
+        Copy(vec![0; stream.len()])
+    }
+
+    fn again(&mut self, stream: &[u8]) -> u64 {
+        self.0.copy_from_slice(black_box(stream));
+        u64::from(black_box(&self.0)[stream.len() / 2])
+    }
 }
 
 /// Four lists with room for the records, written over in each run.
@@ -127,7 +138,11 @@ fn size(bytes: usize) -> String {
     }
 }
 
-fn line(name: &str, length: usize, library: f64, oracle: f64, copy: f64) {
+/// The times of the library, the oracle and a memory copy, in this order.
+type Times = [f64; 3];
+
+fn line(name: &str, length: usize, times: Times) {
+    let [library, oracle, copy] = times;
     let (to_oracle, to_copy) = (library / oracle, library / copy);
     println!(
         "{name}, {}: library {library:.3} ms, oracle {oracle:.3} ms, copy {copy:.3} ms; \
@@ -141,23 +156,28 @@ fn bench_read(name: &str, stream: &[u8]) {
     let deepest = rows.iter().map(|row| row.level).max().unwrap_or(0);
     let rows = rows.len();
     println!("{name}: {rows} records, deepest level {deepest}");
-    let mut lists = Lists::new(rows);
-    let copy = copy_time(stream);
-    let oracle = median(|| oracle::read(stream, rows).map_or(0, |rows| rows.len() as u64));
-    let library = median(|| lists.read(probe_read, stream));
-    line(
-        &format!("read, {name}"),
-        stream.len(),
-        library,
-        oracle,
-        copy,
-    );
+    let (mut lists, mut other, mut copy) = (Lists::new(rows), Lists::new(rows), Copy::of(stream));
+    let [library, oracle, copied, lent] = medians([
+        &mut || lists.read(probe_read, stream),
+        &mut || oracle::read(stream, rows).map_or(0, |rows| rows.len() as u64),
+        &mut || copy.again(stream),
+        &mut || {
+            let lent = other.0.each_mut().map(Vec::as_mut_slice);
+            oracle::read_into(stream, lent).map_or(0, |count| count as u64)
+        },
+    ]);
+    let title = format!("read, {name}");
+    line(&title, stream.len(), [library, oracle, copied]);
+    let ratio = library / lent;
+    println!("{title}: the oracle into lent lists {lent:.3} ms; library/that {ratio:.2}");
     #[cfg(feature = "section")]
     {
-        let oracle = median(|| oracle::read_section(stream, rows).map_or(0, |r| r.len() as u64));
-        let library = median(|| lists.read(probe_read_section, stream));
-        let name = format!("section read, {name}");
-        line(&name, stream.len(), library, oracle, copy);
+        let times = medians([
+            &mut || lists.read(probe_read_section, stream),
+            &mut || oracle::read_section(stream, rows).map_or(0, |rows| rows.len() as u64),
+            &mut || copy.again(stream),
+        ]);
+        line(&format!("section read, {name}"), stream.len(), times);
     }
 }
 
@@ -174,73 +194,83 @@ fn growth(name: &str, points: &[(usize, f64)]) {
 }
 
 #[cfg(feature = "host")]
-fn check_times(section: &[u8]) -> (f64, f64) {
-    // SAFETY: slices of this program.
-    let library = median(|| unsafe { hwp_check(section.as_ptr(), section.len()) });
-    let oracle = median(|| oracle::check(section).map_or(0, |count| count as u64));
-    (library, oracle)
+fn check_times(section: &[u8]) -> Times {
+    let mut copy = Copy::of(section);
+    medians([
+        // SAFETY: slices of this program.
+        &mut || unsafe { hwp_check(section.as_ptr(), section.len()) },
+        &mut || oracle::check(section).map_or(0, |count| count as u64),
+        &mut || copy.again(section),
+    ])
 }
 
 #[cfg(feature = "host")]
-fn field_text_times(section: &[u8]) -> (f64, f64) {
-    let id = shape::ID;
-    // SAFETY: as above.
-    let library = median(|| unsafe { hwp_field_text(section.as_ptr(), section.len(), id) });
-    let oracle = median(|| oracle::field_text(section, id).map_or(0, |part| part.0 as u64));
-    (library, oracle)
+fn field_text_times(section: &[u8]) -> Times {
+    let (id, mut copy) = (shape::ID, Copy::of(section));
+    medians([
+        // SAFETY: as above.
+        &mut || unsafe { hwp_field_text(section.as_ptr(), section.len(), id) },
+        &mut || oracle::field_text(section, id).map_or(0, |part| part.0 as u64),
+        &mut || copy.again(section),
+    ])
 }
 
 #[cfg(feature = "host")]
-fn fill_times(section: &[u8]) -> (f64, f64) {
-    let id = shape::ID;
+fn fill_times(section: &[u8]) -> Times {
+    let (id, mut copy) = (shape::ID, Copy::of(section));
     let value = [65, 0].repeat(15);
-    let mut sheet = vec![0; section.len() + 4096];
-    let length = sheet.len();
-    let oracle = median(|| oracle::fill(section, id, &value, &mut sheet).map_or(0, |n| n as u64));
-    // SAFETY: as above.
-    let library = median(|| unsafe {
-        hwp_fill(
-            section.as_ptr(),
-            section.len(),
-            id,
-            value.as_ptr(),
-            value.len(),
-            sheet.as_mut_ptr(),
-            length,
-        )
-    });
-    (library, oracle)
+    let mut sheets = [vec![0; section.len() + 4096], vec![0; section.len() + 4096]];
+    let [sheet, other] = &mut sheets;
+    medians([
+        // SAFETY: as above.
+        &mut || unsafe {
+            hwp_fill(
+                section.as_ptr(),
+                section.len(),
+                id,
+                value.as_ptr(),
+                value.len(),
+                sheet.as_mut_ptr(),
+                sheet.len(),
+            )
+        },
+        &mut || oracle::fill(section, id, &value, other).map_or(0, |length| length as u64),
+        &mut || copy.again(section),
+    ])
 }
 
 #[cfg(feature = "host")]
 fn bench_host() {
-    type Times = fn(&[u8]) -> (f64, f64);
-    let services: [(&str, Times); 3] = [
+    type Service = fn(&[u8]) -> Times;
+    let services: [(&str, Service); 3] = [
         ("check", check_times),
         ("field text", field_text_times),
         ("fill", fill_times),
     ];
-    for (name, times) in services {
+    for (name, service) in services {
         let mut points = Vec::new();
         for length in [1 << 16, 1 << 20, LIMIT - 4096] {
             let section = shape::section(length);
-            let (library, oracle) = times(&section);
-            line(name, section.len(), library, oracle, copy_time(&section));
-            points.push((section.len(), library));
+            let times = service(&section);
+            line(name, section.len(), times);
+            points.push((section.len(), times[0]));
         }
         growth(name, &points);
     }
-    let section = hostile(&mut Random::new(1), LIMIT);
-    let (library, oracle) = check_times(&section);
-    let copy = copy_time(&section);
-    line("check, deep nesting", section.len(), library, oracle, copy);
+    for (name, service) in services {
+        let section = hostile(&mut Random::new(1), LIMIT);
+        line(
+            &format!("{name}, deep nesting"),
+            section.len(),
+            service(&section),
+        );
+    }
 }
 
 fn main() {
-    println!(
-        "median of {RUNS} runs after one; lists and sheets are allocated once, written over in each run and not \
-         cleared between runs; the oracle makes its own vectors in each run"
-    );
+    println!("medians of {ROUNDS} rounds after one; in each round every call runs once, in turn");
+    println!("lists, sheets and copies are allocated once, written over in each round and not cleared between");
+    println!("the oracle makes its own vectors in each call");
     bench_read("real shape", &shape::section(LIMIT));
     bench_read("deep nesting", &hostile(&mut Random::new(1), LIMIT));
     #[cfg(feature = "host")]

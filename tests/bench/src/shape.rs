@@ -74,16 +74,18 @@ fn field(random: &mut Random, stream: &mut Vec<u8>) {
     put(stream, 71, 1, body);
 }
 
-/// A lawful section of about so many bytes, and never more; its field stands at the end.
+/// A lawful section of nearly so many bytes, and never more; its field stands at the end.
 pub fn section(length: usize) -> Vec<u8> {
     let random = &mut Random::new(1);
     let mut stream = Vec::with_capacity(length);
-    loop {
-        let before = stream.len();
-        paragraph(random, &mut stream, 0, 4);
-        if stream.len() + 2000 > length {
-            stream.truncate(before);
-            break;
+    for depth in [4, 0] {
+        loop {
+            let before = stream.len();
+            paragraph(random, &mut stream, 0, depth);
+            if stream.len() + 2000 > length {
+                stream.truncate(before);
+                break;
+            }
         }
     }
     field(random, &mut stream);

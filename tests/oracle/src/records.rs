@@ -33,16 +33,13 @@ impl Row {
 }
 
 pub fn word(bytes: &[u8], place: usize) -> u32 {
-    u32::from_le_bytes([
-        bytes[place],
-        bytes[place + 1],
-        bytes[place + 2],
-        bytes[place + 3],
-    ])
+    let part = &bytes[place..place + 4];
+    u32::from_le_bytes([part[0], part[1], part[2], part[3]])
 }
 
 pub fn half(bytes: &[u8], place: usize) -> u16 {
-    u16::from_le_bytes([bytes[place], bytes[place + 1]])
+    let part = &bytes[place..place + 2];
+    u16::from_le_bytes([part[0], part[1]])
 }
 
 fn header_length(length: u32) -> usize {
@@ -72,6 +69,7 @@ fn level_rule(before: Option<u32>, level: u32) -> bool {
 }
 
 /// The record whose header stands at `at`, after a record of level `before`.
+#[inline]
 fn read_record(stream: &[u8], at: usize, before: Option<u32>) -> Result<Row, Refusal> {
     demand(stream.len() - at >= 4, 2, at)?;
     let header = word(stream, at);
