@@ -42,6 +42,10 @@ module _ {us : List ℕ} {p u n left : ℕ} {s : Standing} (seen : Seen us p u n
   unfolding token
   at-unclosed k w e = rw (at-token, ne-eqb u 0 k, le-ltb left n w, ne-eqb (getD us (p + (n - 1)) 0) u e)
 
+  -- what takes one position closes itself
+  pub closes-itself : n ≡ 1 → getD us (p + (n - 1)) 0 ≡ u
+  closes-itself e = let z : p + (n - 1) ≡ p = omega arith in rw z (sym (seen .is))
+
 -- besides, it is no unit 0, and is whole and closed by its own code
 pub record Closed (us : List ℕ) (p u n left : ℕ) (s : Standing) : Type 0 where
   pub seen : Seen us p u n left s
