@@ -4,3 +4,4 @@ pub mod TableLaws
 pub mod WalkLaws
 pub mod StepLaws
 pub mod JudgeLaws
+pub mod SoundLaws
