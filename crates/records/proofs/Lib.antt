@@ -1,0 +1,5 @@
+pub mod HeaderLaws
+pub mod ReadingLaws
+pub mod ScanLaws
+pub mod TableLaws
+pub mod Reader
