@@ -1,0 +1,74 @@
+-- Reading a stream record by record: what stands at its front, and the records up to the first fault (document 01, 'Records' and 'Order').
+use Prim.Native.Nat.{ℕ, zero, suc, _+_, _-_, _/_, _%_}
+use mathlib.Core.Bool.{Bool, true, false, cond}
+use mathlib.Core.Option.{Option, none, some}
+use mathlib.Core.List.{List, [], _∷_}
+use lib.Dec.{ltb, eqb}
+use lib.ListN.{length, take, drop}
+use Rattle.numbers.specs.Little.{little}
+use Rattle.records.specs.Records.{Rec, leadOf, size}
+use Rattle.records.specs.declared.fault.Fault.{Fault}
+use Rattle.records.specs.declared.fault.Fault.the-variants as F
+use Rattle.records.specs.declared.header.Front.{Front}
+use Rattle.records.specs.declared.header.Front.the-variants as H
+
+-- what stands at the front of a stream: a record, or a fault
+pub data Stands : Type 0 where
+  whole : Rec → Stands
+  fault : Fault → Stands
+
+-- the fault where the test holds, and else what follows
+unfoldable pub guard : Bool → Fault → Stands → Stands
+guard true f x = fault f
+guard false f x = x
+
+-- the record whose body is the n bytes behind the first `skip`: 4
+unfoldable pub bodyAt : ℕ → ℕ → List ℕ → ℕ → ℕ → Stands
+bodyAt tag level s skip n =
+    guard (ltb (length s) (skip + n)) F.BodyPastEnd (whole (record { tag = tag; level = level; body = take n (drop skip s) }))
+
+-- a header of size 4095, with its long length behind it: 2, 3, 4
+unfoldable pub longAt : ℕ → ℕ → List ℕ → Stands
+longAt tag level s =
+    guard (ltb (length s) 8) F.HeaderCut
+    (guard (ltb (little 4 (drop 4 s)) 4095) F.LongLengthTooSmall (bodyAt tag level s 8 (little 4 (drop 4 s))))
+
+-- behind the header's 32 bits w: 5, 6, and the size
+unfoldable pub wordAt : ℕ → List ℕ → ℕ → Stands
+wordAt cap s w =
+    guard (ltb (w % 1024) 16) F.TagOutside
+    (guard (ltb cap (w / 1024 % 1024)) F.LevelRule
+    (cond (eqb (w / 1048576) 4095) (longAt (w % 1024) (w / 1024 % 1024) s)
+    (bodyAt (w % 1024) (w / 1024 % 1024) s 4 (w / 1048576))))
+
+-- what stands at the front of a stream where the level may be at most cap, by the order 2, 5, 6, 2, 3, 4
+unfoldable pub standsAt : ℕ → List ℕ → Stands
+standsAt cap s = guard (ltb (length s) 4) F.HeaderCut (wordAt cap s (little 4 s))
+
+-- the same as a header's numbers
+abbrev pub frontOf : Stands → Front
+frontOf (whole r) =
+    H.Record (record { tag = r .tag; level = r .level; lead = leadOf (length (r .body)); length = length (r .body) })
+frontOf (fault f) = H.Refused f
+
+-- the records before the first fault, and the fault if there is one; its place is the length of those records as a stream
+pub record Read : Type 0 where
+  pub recs : List Rec
+  pub stop : Option Fault
+
+unfoldable pub onto : Rec → Read → Read
+onto r x = record { recs = r ∷ x .recs; stop = x .stop }
+
+-- reading where the next level may be at most cap and k bytes of the record before are still to be passed over
+unfoldable pub readFrom : ℕ → ℕ → List ℕ → Read
+readFrom cap k [] = record { recs = []; stop = none }
+readFrom cap (suc k) (x ∷ s) = readFrom cap k s
+readFrom cap zero (x ∷ s) =
+    elim (standsAt cap (x ∷ s)) [
+      | fault f ↦ record { recs = []; stop = some f }
+      | whole r ↦ onto r (readFrom (r .level + 1) (size r - 1) s)
+    ]
+
+-- the records of a stream: the first level is 0
+unfoldable pub readAll : List ℕ → Read
+readAll s = readFrom 0 0 s

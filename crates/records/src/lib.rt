@@ -1,0 +1,17 @@
+// Reading the records of an unpacked stream (document 01, 'Records').
+mod fault;
+mod header;
+mod kind;
+mod table;
+
+pub use fault::Answer;
+pub use fault::Fault;
+pub use fault::Offset;
+pub use fault::Refusal;
+pub use fault::refused;
+pub use header::Front;
+pub use header::Header;
+pub use header::first;
+pub use kind::Kind;
+pub use table::read;
+pub use table::scan;
