@@ -15,14 +15,15 @@
 uint64_t probe_read(const uint8_t *stream, size_t length, uint32_t *tags, size_t tags_length, uint32_t *levels,
                     size_t levels_length, uint32_t *places, size_t places_length, uint32_t *lengths,
                     size_t lengths_length);
+#ifdef PACK
 uint64_t probe_pack(uint64_t count, const uint32_t *tags, size_t tags_length, const uint32_t *levels,
                     size_t levels_length, const uint32_t *places, size_t places_length, const uint32_t *lengths,
                     size_t lengths_length, const uint8_t *bytes, size_t bytes_length, uint8_t *out,
                     size_t out_length);
+#endif
 
 #define LIMIT 16777216u
 #define PATTERN 0xC3A55A3Cu
-#define BYTE 0xA5
 
 static const char *now = "start";
 static unsigned checks, failed;
@@ -122,6 +123,14 @@ static void put_record(struct stream *s, uint32_t tag, uint32_t level, uint32_t 
     s->length += length;
 }
 
+static struct stream new_stream(size_t most)
+{
+    struct stream s = {malloc(most + 1), 0};
+    if (!s.bytes)
+        exit(2);
+    return s;
+}
+
 struct row {
     uint32_t part[4];
 };
@@ -150,53 +159,6 @@ static void read_is(const char *name, const struct stream *s, const size_t rooms
         }
         give_back(stream);
     }
-}
-
-struct packing {
-    uint64_t count;
-    const uint32_t *part[4];
-    size_t lengths[4];
-    const uint8_t *bytes;
-    size_t bytes_length;
-    size_t out_length;
-};
-
-/* One pack: the answer, and every byte of the buffer. */
-static void pack_is(const char *name, const struct packing *p, uint64_t asked, const struct stream *written)
-{
-    now = name;
-    for (int at_end = 0; at_end < 2; at_end++) {
-        struct lent l[4];
-        for (int k = 0; k < 4; k++)
-            l[k] = given(p->part[k], 4 * p->lengths[k], at_end);
-        struct lent bytes = given(p->bytes, p->bytes_length, at_end);
-        struct lent out = lend(p->out_length, at_end);
-        if (p->out_length)
-            memset(out.part, BYTE, p->out_length);
-        uint64_t found =
-            probe_pack(p->count, entries(l[0]), p->lengths[0], entries(l[1]), p->lengths[1], entries(l[2]),
-                       p->lengths[2], entries(l[3]), p->lengths[3], bytes.part, p->bytes_length, out.part,
-                       p->out_length);
-        expect(found == asked, "answer");
-        size_t length = written ? written->length : 0;
-        expect(length <= p->out_length && (!length || !memcmp(out.part, written->bytes, length)), "bytes written");
-        int kept = 1;
-        for (size_t i = length; i < p->out_length; i++)
-            kept &= out.part[i] == BYTE;
-        expect(kept, "bytes past the length written");
-        for (int k = 0; k < 4; k++)
-            give_back(l[k]);
-        give_back(bytes);
-        give_back(out);
-    }
-}
-
-static struct stream new_stream(size_t most)
-{
-    struct stream s = {malloc(most + 1), 0};
-    if (!s.bytes)
-        exit(2);
-    return s;
 }
 
 static void read_pairs(void)
@@ -266,6 +228,48 @@ static void read_pairs(void)
     put_record(&s, 20, 0, LIMIT - 7);
     read_is("over the limit", &s, one, answer(1, 0), NULL, 0);
     free(s.bytes);
+}
+
+#ifdef PACK
+#define BYTE 0xA5
+
+struct packing {
+    uint64_t count;
+    const uint32_t *part[4];
+    size_t lengths[4];
+    const uint8_t *bytes;
+    size_t bytes_length;
+    size_t out_length;
+};
+
+/* One pack: the answer, and every byte of the buffer. */
+static void pack_is(const char *name, const struct packing *p, uint64_t asked, const struct stream *written)
+{
+    now = name;
+    for (int at_end = 0; at_end < 2; at_end++) {
+        struct lent l[4];
+        for (int k = 0; k < 4; k++)
+            l[k] = given(p->part[k], 4 * p->lengths[k], at_end);
+        struct lent bytes = given(p->bytes, p->bytes_length, at_end);
+        struct lent out = lend(p->out_length, at_end);
+        if (p->out_length)
+            memset(out.part, BYTE, p->out_length);
+        uint64_t found =
+            probe_pack(p->count, entries(l[0]), p->lengths[0], entries(l[1]), p->lengths[1], entries(l[2]),
+                       p->lengths[2], entries(l[3]), p->lengths[3], bytes.part, p->bytes_length, out.part,
+                       p->out_length);
+        expect(found == asked, "answer");
+        size_t length = written ? written->length : 0;
+        expect(length <= p->out_length && (!length || !memcmp(out.part, written->bytes, length)), "bytes written");
+        int kept = 1;
+        for (size_t i = length; i < p->out_length; i++)
+            kept &= out.part[i] == BYTE;
+        expect(kept, "bytes past the length written");
+        for (int k = 0; k < 4; k++)
+            give_back(l[k]);
+        give_back(bytes);
+        give_back(out);
+    }
 }
 
 static void pack_one(const char *name, uint32_t tag, uint32_t level, uint32_t place, uint32_t length, size_t out,
@@ -353,6 +357,8 @@ static void pack_limit(void)
     free(s.bytes);
 }
 
+#endif
+
 int main(void)
 {
     struct sigaction action;
@@ -361,8 +367,10 @@ int main(void)
     sigaction(SIGSEGV, &action, NULL);
     sigaction(SIGBUS, &action, NULL);
     read_pairs();
+#ifdef PACK
     pack_pairs();
     pack_limit();
+#endif
     printf("shipped: %u checks, %u failed\n", checks, failed);
     return failed != 0;
 }

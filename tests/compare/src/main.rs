@@ -39,7 +39,8 @@ fn words() -> Result<Words, String> {
 /// The services whose functions are linked.
 fn linked(service: Service) -> bool {
     match service {
-        Service::Read | Service::Pack => true,
+        Service::Read => true,
+        Service::Pack => cfg!(feature = "pack"),
         Service::DocInfo => cfg!(feature = "docinfo"),
         Service::Section => cfg!(feature = "section"),
         Service::Check | Service::FieldText | Service::Fill | Service::TwoFills => {

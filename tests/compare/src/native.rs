@@ -30,6 +30,10 @@ extern "C" {
         lengths: *mut u32,
         lengths_length: usize,
     ) -> u64;
+}
+
+#[cfg(feature = "pack")]
+extern "C" {
     fn probe_pack(
         count: u64,
         tags: *const u32,
@@ -128,6 +132,7 @@ impl Subject for Native {
         }
     }
 
+    #[cfg(feature = "pack")]
     fn pack(&self, count: u64, lists: [Given<u32>; 4], bytes: Given<u8>, out: Room<u8>) -> u64 {
         let [tags, levels, places, lengths] = lists;
         // SAFETY: as above.
@@ -177,6 +182,11 @@ impl Subject for Native {
                 sheet.length,
             )
         }
+    }
+
+    #[cfg(not(feature = "pack"))]
+    fn pack(&self, _: u64, _: [Given<u32>; 4], _: Given<u8>, _: Room<u8>) -> u64 {
+        unreachable!("a service that is not linked")
     }
 
     #[cfg(not(feature = "host"))]
