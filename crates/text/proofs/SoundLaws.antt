@@ -71,7 +71,7 @@ rolled u us b = elim (width-or (what u)) [
 
 -- ---- no fault
 
-drop-behind : (n u : ℕ) (us : List ℕ) → 0 < n → drop n (u ∷ us) ≡ drop (n - 1) us
+pub drop-behind : (n u : ℕ) (us : List ℕ) → 0 < n → drop n (u ∷ us) ≡ drop (n - 1) us
 drop-behind zero u us h = absurd (omega arith)
 drop-behind (suc n) u us h = let e : suc n - 1 ≡ n = omega arith in rw e
 
