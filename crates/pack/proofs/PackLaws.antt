@@ -1,17 +1,18 @@
 -- When pack accepts, and that its promise leaves one result. Assumes nothing.
-use Prim.Native.Nat.{ℕ, _+_, _≤_, _<_}
+use Prim.Native.Nat.{ℕ, _+_, _*_, _≤_, _<_}
 use native.Mathlib.Omega.{arith}
 use native.Mathlib.Decide.{decLe}
 use native.Mathlib.Nat.{lt-of-not-le}
-use mathlib.Core.Path.{_≡_, refl, sym, ap, _∙_}
+use mathlib.Core.Path.{_≡_, refl, sym, ap, _∙_, subst}
 use mathlib.Core.List.{List, [], _∷_}
 use lib.ListN.{length}
 use Rattle.records.specs.declared.fault.Fault.{Fault}
 use Rattle.records.specs.declared.fault.Fault.the-variants as F
+use Rattle.records.specs.Answers.{numberOf, placeBits, hostForm}
 use Rattle.records.specs.Records.{Rec, limit, encode}
 use Rattle.records.specs.Table.{shortest, written}
 use Rattle.pack.specs.Rows.{Row, rows, records, Inside}
-use Rattle.pack.specs.Packing.{refusedAt, verdict, rowByRow, closing, rowsAnswer, packAnswer, leaves, SoundRows, Accepts, Packs}
+use Rattle.pack.specs.Packing.{refusedAt, verdict, rowByRow, closing, rowsAnswer, packAnswer, leaves, SoundRows, Accepts, Packs, number, place}
 use Rattle.pack.specs.declared.judge.Index.{Index}
 use Rattle.pack.specs.declared.judge.Verdict.{Verdict}
 use Rattle.pack.specs.declared.judge.Verdict.the-variants as Ver
@@ -106,3 +107,17 @@ module _ (count : ℕ) (t l p q bytes out : List ℕ) where
     may-lay n r =
         let a = accepted count t l p q bytes (length out) n (sym e ∙ r) in
         (a .listed, (sound-inside 0 (length bytes) (rows count t l p q) (a .sound), omega (arith, a .length-is, a .roomy)))
+
+-- ---- the host's form
+
+abbrev Formed : Packed → ℕ → Type 0
+Formed a h = h ≡ hostForm (number a) (place a) 0
+
+pub host-length : (a : Packed) (n b : ℕ) → a ≡ P.Length n → b ≡ placeBits n → 256 * b ≡ hostForm (number a) (place a) 0
+unfolding hostForm
+host-length a n b e f = subst (λ (x : Packed). Formed x (256 * b)) (sym e) (omega arith)
+
+pub host-refused : (a : Packed) (fault : Fault) (i : Index) (m b : ℕ) → a ≡ P.Refused fault i → m ≡ numberOf fault → b ≡ placeBits (i .0)
+    → m + 256 * b ≡ hostForm (number a) (place a) 0
+unfolding hostForm
+host-refused a fault i m b e g f = subst (λ (x : Packed). Formed x (m + 256 * b)) (sym e) (omega arith)
