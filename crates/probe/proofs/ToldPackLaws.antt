@@ -3,7 +3,8 @@ use Prim.Native.Nat.{ℕ}
 use mathlib.Core.Path.{_≡_, ap, _∙_}
 use mathlib.Core.List.{List}
 use Rattle.records.specs.Answers.{hostForm}
-use Rattle.pack.specs.Packing.{Packs, number, place}
+use Rattle.pack.specs.Packing.{number, place}
+use Rattle.pack.specs.Promise.{Packs}
 use Rattle.pack.specs.declared.judge.Packed.{Packed}
 use Rattle.probe.specs.ToldPack.{ToldPack}
 

@@ -1,3 +1,4 @@
+-- An answer takes the host's form. Assumes nothing.
 use Rattle.pack.proofs.PackLaws.{host-length, host-refused}
 use borrow.Author.Needs.{needs}
 use Rattle.pack.proofs.judge.Packed.host.Statement.{statement}
