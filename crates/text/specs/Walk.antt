@@ -1,5 +1,5 @@
 -- The walk over a text's units (document 01, 'Text units').
-use Prim.Native.Nat.{ℕ, zero, suc, _+_, _-_}
+use Prim.Native.Nat.{ℕ, zero, suc, _+_, _-_, _≤_}
 use mathlib.Core.Path.{_≡_}
 use mathlib.Core.Bool.{Bool, true, false, cond, _||_, not}
 use mathlib.Core.Option.{Option, none, some}
@@ -83,6 +83,11 @@ tokens us = walk 0 0 us
 -- those from a position on where a token begins
 abbrev pub tokensAt : List ℕ → ℕ → List Token
 tokensAt us p = walk p 0 (drop p us)
+
+-- units from 32 up, as a value holds them
+abbrev pub AllOrdinary : List ℕ → Type 0
+AllOrdinary [] = Unit {0}
+AllOrdinary (u ∷ us) = (32 ≤ u) × AllOrdinary us
 
 abbrev pub isExtended : Standing → ℕ
 isExtended (Ordinary u) = 0
