@@ -2,6 +2,7 @@
 use Prim.Native.Nat.{ℕ}
 use mathlib.Core.List.{List}
 use denote.Ref.{RefT}
+use Rattle.text.specs.Answers.{place, stepAt}
 use Rattle.text.specs.declared.Position.{Position}
 use Rattle.text.specs.declared.Step.{Step}
 use Rattle.text.specs.declared.Step.the-variants.{Stands, Broken, End}
@@ -15,3 +16,7 @@ abbrev pub onward : Position → Step → Position
 onward at (Stands p s next) = next .at
 onward at (Broken p) = at
 onward at End = at
+
+-- what stands behind what stands first
+unfoldable pub secondOf : List ℕ → Step
+secondOf us = stepAt us (onward (place 0) (stepAt us 0) .0)

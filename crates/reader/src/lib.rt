@@ -6,7 +6,7 @@ ghost use Prim.Native.Nat.{_*_};
 ghost use lib.ListN.{drop};
 ghost use Rattle.text.specs.Units.{units};
 ghost use Rattle.text.specs.Answers.{place, stepAt};
-ghost use Rattle.reader.specs.Reading.{onward, reader};
+ghost use Rattle.reader.specs.Reading.{onward, reader, secondOf};
 use text::Cursor;
 use text::Position;
 use text::Step;
@@ -40,6 +40,19 @@ fn behind(text: &[u8], at: Position) -> Position
     }
 }
 
+// The bytes from a position on.
+fn rest_at<'a>(text: &'a [u8], at: Position) -> &'a [u8]
+    ensures { λ r. ⌜ now r ≡ drop (2 * at .0) (now (text .entry)) ⌝ }
+{
+    let p = at.0;
+    let n = text.len();
+    if p <= n / 2 {
+        let from = 2 * p;
+        return &text[from..];
+    }
+    &text[n..]
+}
+
 // A walk at the start of a text.
 pub fn make<'a>(text: &'a [u8]) -> Reader<'a>
     ensures { λ r. ⌜ r ≡ reader (text .entry) (place 0) ⌝ }
@@ -70,4 +83,18 @@ pub fn step<'a>(r: Reader<'a>) -> Reader<'a>
 {
     let at = behind(r.text, r.at);
     Reader { text: r.text, at }
+}
+
+// The bytes that are left.
+pub fn rest<'a>(r: Reader<'a>) -> &'a [u8]
+    ensures { λ s. ⌜ now s ≡ drop (2 * r .entry .at .0) (now (r .entry .text)) ⌝ }
+{
+    rest_at(r.text, r.at)
+}
+
+// What stands second in a text: its contract says nothing of a reader, so whoever calls it needs no walk by hand.
+pub fn second(text: &[u8]) -> Step
+    ensures { λ s. ⌜ s ≡ secondOf (units (now (text .entry))) ⌝ }
+{
+    stands(step(make(text)))
 }
