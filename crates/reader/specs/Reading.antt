@@ -18,5 +18,5 @@ onward at (Broken p) = at
 onward at End = at
 
 -- what stands behind what stands first
-unfoldable pub secondOf : List ℕ → Step
+abbrev pub secondOf : List ℕ → Step
 secondOf us = stepAt us (onward (place 0) (stepAt us 0) .0)
