@@ -31,5 +31,5 @@ module _ (r : Reader) where
       → q₂ ≡ reader (r .text) (onward (r .at) (stepAt (units (now (r .text))) (r .at .0))) → q₁ ≡ q₂
   step-determined = only
 
-  pub rest-determined : {s₁ s₂ : RefT (List ℕ)} → now s₁ ≡ drop (2 * r .at .0) (now (r .text)) → now s₂ ≡ drop (2 * r .at .0) (now (r .text)) → now s₁ ≡ now s₂
-  rest-determined = only
+  pub rest-determined : (s₁ s₂ : RefT (List ℕ)) → now s₁ ≡ drop (2 * r .at .0) (now (r .text)) → now s₂ ≡ drop (2 * r .at .0) (now (r .text)) → now s₁ ≡ now s₂
+  rest-determined s₁ s₂ = only
