@@ -1,14 +1,13 @@
 -- The judgement of a whole text, step by step. Assumes nothing.
-use Prim.Native.Nat.{ℕ, zero, suc, _+_, _≤_, _<_}
+use Prim.Native.Nat.{ℕ, _+_, _≤_, _<_}
 use native.Mathlib.Omega.{arith}
 use native.Mathlib.Nat.{add-assoc}
-use mathlib.Core.Path.{_≡_, refl, sym, ap, _∙_}
-use mathlib.Core.Option.{none, some}
+use mathlib.Core.Path.{_≡_, refl, sym, _∙_}
+use mathlib.Core.Option.{some}
 use mathlib.Core.List.{List, [], _∷_}
 use lib.ListN.{length}
-use Rattle.text.specs.Walk.{Token, width, tokens, tokensAt, isExtended, extendedIn, extendedCount, faultAt, textFault}
+use Rattle.text.specs.Walk.{tokens, tokensAt, isExtended, extendedIn, extendedCount, faultAt, textFault}
 use Rattle.text.specs.Answers.{place, verdict, judged}
-use Rattle.text.specs.declared.Class.{Class}
 use Rattle.text.specs.declared.Class.the-variants.{Character, Inline, Extended}
 use Rattle.text.specs.declared.Standing.{Standing}
 use Rattle.text.specs.declared.Standing.the-variants.{Ordinary, Control}
