@@ -1,3 +1,4 @@
+pub mod AnswerLaws
 pub mod HeaderLaws
 pub mod ReadingLaws
 pub mod ScanLaws

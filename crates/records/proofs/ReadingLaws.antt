@@ -46,11 +46,11 @@ word-parts w = omega arith
 
 -- ---- lengths
 
-header-short : (tag level n : ℕ) → n < 4095 → headerOf tag level n ≡ bytesOf 4 (headerWord tag level n)
+pub header-short : (tag level n : ℕ) → n < 4095 → headerOf tag level n ≡ bytesOf 4 (headerWord tag level n)
 unfolding headerOf
 header-short tag level n h = simp (lt-ltb n 4095 h)
 
-header-long : (tag level n : ℕ) → 4095 ≤ n → headerOf tag level n ≡ bytesOf 4 (headerWord tag level 4095) ++ bytesOf 4 n
+pub header-long : (tag level n : ℕ) → 4095 ≤ n → headerOf tag level n ≡ bytesOf 4 (headerWord tag level 4095) ++ bytesOf 4 n
 unfolding headerOf
 header-long tag level n h = simp (le-ltb n 4095 h)
 
@@ -342,6 +342,34 @@ encode-read-within (suc n) cap s h bs e =
 
 pub encode-read : (cap : ℕ) (s : List ℕ) → Bytes s → readFrom cap 0 s .stop ≡ none → Encodes cap s (readFrom cap 0 s .recs)
 encode-read cap s bs e = encode-read-within (length s) cap s (omega arith) bs e
+
+-- ---- the records that are read lie within the stream: n bounds its length
+
+prefix-by : (cap : ℕ) (s : List ℕ) (a : Stands) → standsAt cap s ≡ a → Bytes s → 0 < length s
+    → ((r : Rec) → standsAt cap s ≡ whole r → length (encode (readFrom (r .level + 1) 0 (drop (size r) s) .recs)) ≤ length (drop (size r) s))
+    → length (encode (readFrom cap 0 s .recs)) ≤ length s
+unfolding encode onto
+prefix-by cap s (fault f) q bs h rest = rw (read-stop cap s f h q) (omega arith)
+prefix-by cap s (whole r) q bs h rest =
+    let k = found cap s bs r q in
+    let ih = rest r q in
+    rw (read-next cap s r h q)
+    (omega (arith, k .inside, length-drop (size r) s, encode-length r (encode (readFrom (r .level + 1) 0 (drop (size r) s) .recs))))
+
+prefix-within : (n cap : ℕ) (s : List ℕ) → length s ≤ n → Bytes s → length (encode (readFrom cap 0 s .recs)) ≤ length s
+unfolding encode
+prefix-within zero cap s h bs = rw (read-end cap s (omega arith)) (omega arith)
+prefix-within (suc n) cap s h bs =
+    elim (decLe (length s) 0) [
+      | yes g ↦ rw (read-end cap s (omega arith)) (omega arith)
+      | no g ↦
+          let m : 0 < length s = lt-of-not-le g in
+          prefix-by cap s (standsAt cap s) refl bs m
+          (λ r q. prefix-within n (r .level + 1) (drop (size r) s) (omega (arith, length-drop (size r) s, size-least r)) (bytes-drop (size r) s bs))
+    ]
+
+pub read-prefix : (cap : ℕ) (s : List ℕ) → Bytes s → length (encode (readFrom cap 0 s .recs)) ≤ length s
+read-prefix cap s bs = prefix-within (length s) cap s (omega arith) bs
 
 -- ---- a pass over a stream: what is known where a header was read at `at`
 
