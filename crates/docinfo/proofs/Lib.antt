@@ -1,0 +1,6 @@
+pub mod WalkLaws
+pub mod ChildLaws
+pub mod SeekLaws
+pub mod OnlyLaws
+pub mod CountLaws
+pub mod AnswerLaws

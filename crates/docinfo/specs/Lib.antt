@@ -1,0 +1,4 @@
+pub mod Children
+pub mod Only
+pub mod Counts
+pub mod DocInfo
