@@ -4,3 +4,5 @@ pub mod SeekLaws
 pub mod OnlyLaws
 pub mod CountLaws
 pub mod AnswerLaws
+pub mod SoundLaws
+pub mod Reader

@@ -111,7 +111,7 @@ onlyOf-doubled : (p q : Placed) (qs : List Placed) → p .it .level ≡ 0 → on
 unfolding onlyOf
 onlyOf-doubled p q qs h = simp (eq-eqb (p .it .level) 0 h)
 
-onlyOf-one : (p : Placed) → p .it .level ≡ 0 → onlyOf (p ∷ []) ≡ one p
+pub onlyOf-one : (p : Placed) → p .it .level ≡ 0 → onlyOf (p ∷ []) ≡ one p
 unfolding onlyOf
 onlyOf-one p h = simp (eq-eqb (p .it .level) 0 h)
 
@@ -190,7 +190,7 @@ module _ (s : List ℕ) (t : ℕ) where
 
 -- ---- what the one record is
 
-onlyOf-is : (ps : List Placed) (p : Placed) → onlyOf ps ≡ one p → (ps ≡ p ∷ []) × (p .it .level ≡ 0)
+pub onlyOf-is : (ps : List Placed) (p : Placed) → onlyOf ps ≡ one p → (ps ≡ p ∷ []) × (p .it .level ≡ 0)
 unfolding onlyOf
 onlyOf-is [] p e = absurd (let z : _≡_ {A = ℕ} 0 1 = cc in omega arith)
 onlyOf-is (q ∷ []) p e = by-level (eqb (q .it .level) 0) refl e
