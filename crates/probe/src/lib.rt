@@ -4,3 +4,4 @@ mod reading;
 
 pub use packing::probe_pack;
 pub use reading::probe_read;
+pub use reading::probe_read_docinfo;
