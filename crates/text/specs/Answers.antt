@@ -1,0 +1,36 @@
+-- What the walk's calls answer (document 01, 'Text units': each step reports where it stood and what stands there, and hands back the
+-- walk at the next position).
+use Prim.Native.Nat.{ℕ, _+_}
+use mathlib.Core.Option.{Option, none, some}
+use mathlib.Core.List.{List}
+use lib.ListN.{drop}
+use Rattle.text.specs.Walk.{Front, stands, broken, over, front, width, textFault, extendedCount}
+use Rattle.text.specs.declared.Position.{Position}
+use Rattle.text.specs.declared.Cursor.{Cursor}
+use Rattle.text.specs.declared.Step.{Step}
+use Rattle.text.specs.declared.Step.the-variants.{Stands, Broken, End}
+use Rattle.text.specs.declared.Judged.{Judged}
+use Rattle.text.specs.declared.Judged.the-variants as judgement
+
+abbrev pub place : ℕ → Position
+place p = record { 0 = p }
+
+abbrev pub cursor : ℕ → Cursor
+cursor p = record { at = place p }
+
+-- the step from position p
+abbrev pub stepOf : ℕ → Front → Step
+stepOf p (stands s) = Stands (place p) s (cursor (p + width s))
+stepOf p (broken d) = Broken (place (p + d))
+stepOf p over = End
+
+unfoldable pub stepAt : List ℕ → ℕ → Step
+stepAt us p = stepOf p (front (drop p us))
+
+-- a sound text with its number of extended controls, else its first fault
+abbrev pub verdict : Option ℕ → ℕ → Judged
+verdict none n = judgement.Sound n
+verdict (some p) n = judgement.Broken (place p)
+
+unfoldable pub judged : List ℕ → Judged
+judged us = verdict (textFault us) (extendedCount us)
