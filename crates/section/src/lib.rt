@@ -1,0 +1,1 @@
+// The rules of a section: check and the section read (document 01, 'Order').
