@@ -3,6 +3,8 @@ use Prim.Native.Nat.{ℕ, zero, suc, _+_, _-_, _*_, _/_, _%_, _≤_, _<_}
 use native.Mathlib.Omega.{arith}
 use native.Mathlib.Numerals.{add-one}
 use native.Mathlib.Nat.{zero-add, div-div-eq-div-mul}
+use mir.Val.{Fits}
+use mir.Syntax.{w8}
 use mathlib.Core.Path.{_≡_, refl, sym, ap, ap₂, _∙_}
 use mathlib.Core.List.{List, [], _∷_, _++_}
 use mathlib.Core.Bool.{true, false, cond}
@@ -103,3 +105,7 @@ copied s out copy h e = e ∙ simp take-length (sym (laid-fits s out h))
 -- a part of a slice that goes to its end
 pub part-rest : (s : List ℕ) (a : ℕ) → take (length s - a) (drop a s) ≡ drop a s
 part-rest s a = take-all (length s - a) (drop a s) (omega (arith, length-drop a s))
+
+-- what a slice of bytes holds
+pub slice-bytes : (s : List ℕ) → ((i : ℕ) → Fits w8 (getD s i 0)) → Bytes s
+slice-bytes s fits i = let h = fits i in omega arith

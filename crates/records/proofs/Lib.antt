@@ -1,1 +1,3 @@
 pub mod HeaderLaws
+pub mod ReadingLaws
+pub mod ScanLaws

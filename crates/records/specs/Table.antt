@@ -2,13 +2,14 @@
 use Prim.Native.Nat.{ℕ, _+_, min}
 use mathlib.Core.Path.{_≡_}
 use mathlib.Core.Bool.{cond}
-use mathlib.Core.Option.{none, some}
+use mathlib.Core.Option.{Option, none, some}
 use mathlib.Core.List.{List, [], _∷_, _++_, map}
 use lib.Dec.{ltb, leb}
 use lib.ListN.{length, take, drop}
 use Rattle.records.specs.Records.{Rec, limit, encode, leadOf, size}
 use Rattle.records.specs.Answers.{refusedAt}
 use Rattle.records.specs.Reading.{Read, readAll}
+use Rattle.records.specs.declared.fault.Fault.{Fault}
 use Rattle.records.specs.declared.fault.Fault.the-variants as F
 use Rattle.records.specs.declared.fault.Answer.{Answer}
 use Rattle.records.specs.declared.fault.Answer.the-variants as A
@@ -17,9 +18,14 @@ use Rattle.records.specs.declared.fault.Answer.the-variants as A
 unfoldable pub roomFor : ℕ → List Rec → Answer
 roomFor room rs = cond (leb (length rs) room) (A.Accepted (length rs)) (refusedAt F.NoRoom (length (encode (take room rs))))
 
+-- the fault that stopped the reading, at its place p, and else the answer a
+unfoldable pub stopped : Option Fault → ℕ → Answer → Answer
+stopped none p a = a
+stopped (some f) p a = refusedAt f p
+
 -- the fault that stopped the reading, at its header, and else the answer of the room
 unfoldable pub answerOf : ℕ → Read → Answer
-answerOf room x = elim (x .stop) [ some f ↦ refusedAt f (length (encode (x .recs))) | none ↦ roomFor room (x .recs) ]
+answerOf room x = stopped (x .stop) (length (encode (x .recs))) (roomFor room (x .recs))
 
 -- read's answer where the shortest list has `room` entries: 1, then the records, then 7
 unfoldable pub readAnswer : List ℕ → ℕ → Answer

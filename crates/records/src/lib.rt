@@ -2,6 +2,7 @@
 mod fault;
 mod header;
 mod kind;
+mod read;
 
 pub use fault::Answer;
 pub use fault::Fault;
@@ -12,3 +13,4 @@ pub use header::Front;
 pub use header::Header;
 pub use header::first;
 pub use kind::Kind;
+pub use read::scan;

@@ -1,0 +1,412 @@
+-- Reading and encoding undo each other: a record has one encoding, and a stream is the encoding of what is read from it. Assumes nothing.
+use Prim.Native.Nat.{ℕ, zero, suc, _+_, _-_, _*_, _/_, _%_, _≤_, _<_}
+use native.Mathlib.Omega.{arith}
+use native.Mathlib.Decide.{decLe}
+use native.Mathlib.Nat.{lt-of-not-le}
+use mathlib.Core.Path.{_≡_, refl, sym, ap, ap₂, _∙_, subst}
+use mathlib.Core.Bool.{Bool, true, false, cond, not}
+use mathlib.Core.Option.{Option, none, some}
+use mathlib.Core.List.{List, [], _∷_, _++_, append-assoc, append-nil}
+use lib.Dec.{T, ltb, eqb, nltb→le, eqb→eq, T-not, eqb-refl}
+use lib.ListN.{length, getD, take, drop, length-append, length-drop, take-append-drop}
+use lib.Seq.{take-at, drop-at, take-add, drop-drop, getD-take, getD-drop}
+use borrow.Author.Tests.{lt-ltb, le-ltb, eq-eqb, ne-eqb}
+use Rattle.numbers.specs.Little.{little, bytesOf, Bytes, span}
+use Rattle.numbers.proofs.LittleLaws.{bytes-drop, little-small, length-bytesOf, little-bytesOf, bytesOf-little, part-rest}
+use Rattle.records.specs.Records.{Rec, headerWord, leadOf, headerOf, encodeOne, encode, size, Obeys, Lawful}
+use Rattle.records.specs.Reading.{Stands, whole, fault, guard, bodyAt, longAt, wordAt, standsAt, frontOf, Read, onto, readFrom, readAll}
+use Rattle.records.specs.declared.fault.Fault.{Fault}
+use Rattle.records.specs.declared.header.Header.{Header}
+use Rattle.records.specs.declared.header.Front.{Front}
+use Rattle.records.specs.declared.header.Front.the-variants as H
+use Rattle.records.proofs.HeaderLaws.{lead-short, lead-long, lead-bounds, length-part}
+
+-- ---- the 32 bits of a header
+
+module _ (tag level n : ℕ) (ht : tag < 1024) (hl : level < 1024) where
+  tag-in : headerWord tag level n % 1024 ≡ tag
+  unfolding headerWord
+  tag-in = omega arith
+
+  level-in : headerWord tag level n / 1024 % 1024 ≡ level
+  unfolding headerWord
+  level-in = omega arith
+
+  size-in : headerWord tag level n / 1048576 ≡ n
+  unfolding headerWord
+  size-in = omega arith
+
+  word-small : n < 4096 → headerWord tag level n < span 4
+  unfolding headerWord span
+  word-small h = omega arith
+
+word-parts : (w : ℕ) → headerWord (w % 1024) (w / 1024 % 1024) (w / 1048576) ≡ w
+unfolding headerWord
+word-parts w = omega arith
+
+-- ---- lengths
+
+header-short : (tag level n : ℕ) → n < 4095 → headerOf tag level n ≡ bytesOf 4 (headerWord tag level n)
+unfolding headerOf
+header-short tag level n h = simp (lt-ltb n 4095 h)
+
+header-long : (tag level n : ℕ) → 4095 ≤ n → headerOf tag level n ≡ bytesOf 4 (headerWord tag level 4095) ++ bytesOf 4 n
+unfolding headerOf
+header-long tag level n h = simp (le-ltb n 4095 h)
+
+pub length-headerOf : (tag level n : ℕ) → length (headerOf tag level n) ≡ leadOf n
+length-headerOf tag level n =
+    elim (decLe 4095 n) [
+      | yes h ↦ simp (header-long tag level n h, length-append, length-bytesOf) (sym (lead-long n h))
+      | no g ↦
+          let h : n < 4095 = lt-of-not-le g in
+          simp (header-short tag level n h, length-bytesOf) (sym (lead-short n h))
+    ]
+
+pub length-encodeOne : (r : Rec) → length (encodeOne r) ≡ size r
+unfolding encodeOne size
+length-encodeOne r = simp (length-append, length-headerOf)
+
+pub size-least : (r : Rec) → 4 ≤ size r
+unfolding size
+size-least r = omega (arith, lead-bounds (length (r .body)))
+
+-- ---- the record at the front of an encoding
+
+module _ (cap : ℕ) (s : List ℕ) (tag level n : ℕ) (t-low : 16 ≤ tag) (t-high : tag < 1024) (l-cap : level ≤ cap) (l-high : level < 1024) where
+  short-stands : little 4 s ≡ headerWord tag level n → n < 4095 → 4 + n ≤ length s
+      → standsAt cap s ≡ whole (record { tag = tag; level = level; body = take n (drop 4 s) })
+  unfolding standsAt wordAt bodyAt guard
+  short-stands e h k =
+      simp (
+        e,
+        tag-in tag level n t-high l-high,
+        level-in tag level n t-high l-high,
+        size-in tag level n t-high l-high,
+        le-ltb (length s) 4 (omega arith),
+        le-ltb tag 16 t-low,
+        le-ltb cap level l-cap,
+        ne-eqb n 4095 (λ q. omega arith),
+        le-ltb (length s) (4 + n) k,
+      )
+
+  long-stands : little 4 s ≡ headerWord tag level 4095 → little 4 (drop 4 s) ≡ n → 4095 ≤ n → 8 + n ≤ length s
+      → standsAt cap s ≡ whole (record { tag = tag; level = level; body = take n (drop 8 s) })
+  unfolding standsAt wordAt longAt bodyAt guard
+  long-stands e f h k =
+      simp (
+        e,
+        f,
+        tag-in tag level 4095 t-high l-high,
+        level-in tag level 4095 t-high l-high,
+        size-in tag level 4095 t-high l-high,
+        le-ltb (length s) 4 (omega arith),
+        le-ltb (length s) 8 (omega arith),
+        le-ltb tag 16 t-low,
+        le-ltb cap level l-cap,
+        le-ltb n 4095 h,
+        le-ltb (length s) (8 + n) k,
+      )
+
+short-bytes : (r : Rec) (t : List ℕ) → length (r .body) < 4095
+    → encodeOne r ++ t ≡ bytesOf 4 (headerWord (r .tag) (r .level) (length (r .body))) ++ (r .body ++ t)
+unfolding encodeOne
+short-bytes r t h = simp (header-short (r .tag) (r .level) (length (r .body)) h, append-assoc)
+
+long-bytes : (r : Rec) (t : List ℕ) → 4095 ≤ length (r .body)
+    → encodeOne r ++ t ≡ bytesOf 4 (headerWord (r .tag) (r .level) 4095) ++ (bytesOf 4 (length (r .body)) ++ (r .body ++ t))
+unfolding encodeOne
+long-bytes r t h = simp (header-long (r .tag) (r .level) (length (r .body)) h, append-assoc)
+
+encode-length : (r : Rec) (t : List ℕ) → length (encodeOne r ++ t) ≡ size r + length t
+encode-length r t = simp (length-append, length-encodeOne)
+
+-- the body, behind a lead of four or eight bytes
+behind : (a b t : List ℕ) (k : ℕ) → length a ≡ k → take (length b) (drop k (a ++ (b ++ t))) ≡ b
+behind a b t k e = simp (drop-at a (b ++ t) k e, take-at b t (length b) refl)
+
+module _ (cap : ℕ) (r : Rec) (t : List ℕ) (o : Obeys cap r) where
+  stands-short : length (r .body) < 4095 → standsAt cap (encodeOne r ++ t) ≡ whole r
+  unfolding size
+  stands-short h =
+      let n = length (r .body) in
+      let w = headerWord (r .tag) (r .level) n in
+      let e = short-bytes r t h in
+      let m = word-small (r .tag) (r .level) n (o .tag-high) (o .level-high) (omega arith) in
+      short-stands cap (encodeOne r ++ t) (r .tag) (r .level) n (o .tag-low) (o .tag-high) (o .level-cap) (o .level-high)
+      (ap (little 4) e ∙ little-bytesOf 4 w (r .body ++ t) m) h (omega (arith, encode-length r t, lead-short n h))
+      ∙ ap (λ (b : List ℕ). whole (record { tag = r .tag; level = r .level; body = b }))
+      (ap (λ (l : List ℕ). take n (drop 4 l)) e ∙ behind (bytesOf 4 w) (r .body) t 4 (length-bytesOf 4 w))
+
+  stands-long : 4095 ≤ length (r .body) → standsAt cap (encodeOne r ++ t) ≡ whole r
+  unfolding size span
+  stands-long h =
+      let n = length (r .body) in
+      let w = headerWord (r .tag) (r .level) 4095 in
+      let e = long-bytes r t h in
+      let m = word-small (r .tag) (r .level) 4095 (o .tag-high) (o .level-high) (omega arith) in
+      let d : drop 4 (encodeOne r ++ t) ≡ bytesOf 4 n ++ (r .body ++ t) = ap (drop 4) e ∙ drop-at (bytesOf 4 w) (bytesOf 4 n ++ (r .body ++ t)) 4 (length-bytesOf 4 w) in
+      let d′ : drop 8 (encodeOne r ++ t) ≡ drop 4 (bytesOf 4 n ++ (r .body ++ t)) = sym (drop-drop 4 4 (encodeOne r ++ t)) ∙ ap (drop 4) d in
+      long-stands cap (encodeOne r ++ t) (r .tag) (r .level) n (o .tag-low) (o .tag-high) (o .level-cap) (o .level-high)
+      (ap (little 4) e ∙ little-bytesOf 4 w (bytesOf 4 n ++ (r .body ++ t)) m) (ap (little 4) d ∙ little-bytesOf 4 n (r .body ++ t) (o .body-fits)) h
+      (omega (arith, encode-length r t, lead-long n h))
+      ∙ ap (λ (b : List ℕ). whole (record { tag = r .tag; level = r .level; body = b }))
+      (ap (take n) d′ ∙ behind (bytesOf 4 n) (r .body) t 4 (length-bytesOf 4 n))
+
+  pub stands-encode : standsAt cap (encodeOne r ++ t) ≡ whole r
+  stands-encode = elim (decLe 4095 (length (r .body))) [ yes h ↦ stands-long h | no g ↦ stands-short (lt-of-not-le g) ]
+
+-- ---- what stands at the front is encoded there
+
+-- what is known of a record that stands at the front of s
+pub record Found (cap : ℕ) (s : List ℕ) (r : Rec) : Type 0 where
+  pub obeys : Obeys cap r
+  pub inside : size r ≤ length s
+  pub bytes : encodeOne r ≡ take (size r) s
+
+abbrev FoundIf : ℕ → List ℕ → Stands → Type 0
+FoundIf cap s (fault f) = Unit {0}
+FoundIf cap s (whole r) = Found cap s r
+
+by-guard : (P : Stands → Type 0) (b : Bool) (f : Fault) (x : Stands) → ((g : Fault) → P (fault g)) → (T (not b) → P x) → P (guard b f x)
+unfolding guard
+by-guard P true f x stopped passed = stopped f
+by-guard P false f x stopped passed = passed tt
+
+by-cond : (P : Stands → Type 0) (b : Bool) (x y : Stands) → (T b → P x) → (T (not b) → P y) → P (cond b x y)
+by-cond P true x y f g = f tt
+by-cond P false x y f g = g tt
+
+take-both : (s a b : List ℕ) (m n : ℕ) → a ≡ take m s → b ≡ take n (drop m s) → a ++ b ≡ take (m + n) s
+take-both s a b m n e f = ap₂ (λ (x y : List ℕ). x ++ y) e f ∙ sym (take-add m n s)
+
+module _ (cap : ℕ) (s : List ℕ) (bs : Bytes s) where
+  abbrev w : ℕ
+  w = little 4 s
+
+  abbrev found-of : ℕ → ℕ → Rec
+  found-of skip n = record { tag = w % 1024; level = w / 1024 % 1024; body = take n (drop skip s) }
+
+  found-obeys : (skip n : ℕ) → 16 ≤ w % 1024 → w / 1024 % 1024 ≤ cap → n < span 4 → skip + n ≤ length s → Obeys cap (found-of skip n)
+  unfolding span
+  found-obeys skip n t l h k =
+      record {
+        tag-low = t;
+        tag-high = omega arith;
+        level-cap = l;
+        level-high = omega arith;
+        body-fits = omega (arith, length-part s skip n k);
+      }
+
+  found-short : 16 ≤ w % 1024 → w / 1024 % 1024 ≤ cap → (w / 1048576 ≡ 4095 → ⊥) → 4 + w / 1048576 ≤ length s → Found cap s (found-of 4 (w / 1048576))
+  unfolding size encodeOne span
+  found-short t l z k =
+      let n = w / 1048576 in
+      let small = little-small 4 s bs in
+      let h : n < 4095 = omega arith in
+      let e = length-part s 4 n k in
+      let size-is : size (found-of 4 n) ≡ 4 + n = simp (e, lead-short n h) in
+      record {
+        obeys = found-obeys 4 n t l (omega arith) k;
+        inside = omega arith;
+        bytes =
+            take-both s (headerOf (w % 1024) (w / 1024 % 1024) (length (take n (drop 4 s)))) (take n (drop 4 s)) 4 n
+            (simp (e, header-short (w % 1024) (w / 1024 % 1024) n h, word-parts w) (bytesOf-little 4 s bs (omega arith))) refl
+            ∙ ap (λ (m : ℕ). take m s) (sym size-is);
+      }
+
+  found-long : (n : ℕ) → n ≡ little 4 (drop 4 s) → 16 ≤ w % 1024 → w / 1024 % 1024 ≤ cap → w / 1048576 ≡ 4095 → 4095 ≤ n → 8 + n ≤ length s → Found cap s (found-of 8 n)
+  unfolding size encodeOne span
+  found-long n q t l z h k =
+      let small = little-small 4 (drop 4 s) (bytes-drop 4 s bs) in
+      let e = length-part s 8 n k in
+      let size-is : size (found-of 8 n) ≡ 8 + n = simp (e, lead-long n h) in
+      let first : bytesOf 4 (headerWord (w % 1024) (w / 1024 % 1024) 4095) ≡ take 4 s = simp (sym z, word-parts w) (bytesOf-little 4 s bs (omega arith)) in
+      let second : bytesOf 4 n ≡ take 4 (drop 4 s) = simp q (bytesOf-little 4 (drop 4 s) (bytes-drop 4 s bs) (omega (arith, length-drop 4 s))) in
+      record {
+        obeys = found-obeys 8 n t l (omega arith) k;
+        inside = omega arith;
+        bytes =
+            take-both s (headerOf (w % 1024) (w / 1024 % 1024) (length (take n (drop 8 s)))) (take n (drop 8 s)) 8 n
+            (simp (e, header-long (w % 1024) (w / 1024 % 1024) n h) (take-both s (bytesOf 4 (headerWord (w % 1024) (w / 1024 % 1024) 4095)) (bytesOf 4 n) 4 4 first second)) refl
+            ∙ ap (λ (m : ℕ). take m s) (sym size-is);
+      }
+
+  found-if : FoundIf cap s (standsAt cap s)
+  unfolding standsAt wordAt longAt bodyAt
+  found-if =
+      let P = FoundIf cap s in
+      by-guard P (ltb (length s) 4) _ _ (λ _. tt)
+      (λ _.
+      by-guard P (ltb (w % 1024) 16) _ _ (λ _. tt)
+      (λ t.
+      by-guard P (ltb cap (w / 1024 % 1024)) _ _ (λ _. tt)
+      (λ l.
+      by-cond P (eqb (w / 1048576) 4095) _ _
+      (λ z.
+      by-guard P (ltb (length s) 8) _ _ (λ _. tt)
+      (λ _.
+      by-guard P (ltb (little 4 (drop 4 s)) 4095) _ _ (λ _. tt)
+      (λ h.
+      by-guard P (ltb (length s) (8 + little 4 (drop 4 s))) _ _ (λ _. tt)
+      (λ k. found-long (little 4 (drop 4 s)) refl (nltb→le _ _ t) (nltb→le _ _ l) (eqb→eq _ _ z) (nltb→le _ _ h) (nltb→le _ _ k)))))
+      (λ z.
+      by-guard P (ltb (length s) (4 + w / 1048576)) _ _ (λ _. tt)
+      (λ k. found-short (nltb→le _ _ t) (nltb→le _ _ l) (λ e. T-not (eqb (w / 1048576) 4095) z (subst (λ (m : ℕ). T (eqb (w / 1048576) m)) e (eqb-refl (w / 1048576)))) (nltb→le _ _ k))))))
+
+  pub found : (r : Rec) → standsAt cap s ≡ whole r → Found cap s r
+  found r e = subst (FoundIf cap s) e found-if
+
+-- ---- the clauses of reading
+
+pub read-skip : (cap k : ℕ) (s : List ℕ) → readFrom cap k s ≡ readFrom cap 0 (drop k s)
+unfolding readFrom
+read-skip cap zero s = refl
+read-skip cap (suc k) [] = refl
+read-skip cap (suc k) (x ∷ s) = read-skip cap k s
+
+pub read-end : (cap : ℕ) (s : List ℕ) → length s ≡ 0 → readFrom cap 0 s ≡ record { recs = []; stop = none }
+unfolding readFrom
+read-end cap [] e = refl
+read-end cap (x ∷ s) e = absurd (omega arith)
+
+pub read-stop : (cap : ℕ) (s : List ℕ) (f : Fault) → 0 < length s → standsAt cap s ≡ fault f → readFrom cap 0 s ≡ record { recs = []; stop = some f }
+unfolding readFrom
+read-stop cap [] f h e = absurd (omega arith)
+read-stop cap (x ∷ s) f h e = rw (e, readFrom)
+
+pub read-next : (cap : ℕ) (s : List ℕ) (r : Rec) → 0 < length s → standsAt cap s ≡ whole r
+    → readFrom cap 0 s ≡ onto r (readFrom (r .level + 1) 0 (drop (size r) s))
+unfolding readFrom
+read-next cap [] r h e = absurd (omega arith)
+read-next cap (x ∷ s) r h e =
+    let one : size r ≡ suc (size r - 1) = omega (arith, size-least r) in
+    rw (e, readFrom) (ap (onto r) (read-skip (r .level + 1) (size r - 1) s ∙ ap (λ (k : ℕ). readFrom (r .level + 1) 0 (drop k (x ∷ s))) (sym one)))
+
+-- ---- reading what was encoded
+
+pub read-encode : (cap : ℕ) (rs : List Rec) → Lawful cap rs → readFrom cap 0 (encode rs) ≡ record { recs = rs; stop = none }
+unfolding encode onto
+read-encode cap [] l = read-end cap [] refl
+read-encode cap (r ∷ rs) l =
+    read-next cap (encodeOne r ++ encode rs) r (omega (arith, encode-length r (encode rs), size-least r)) (stands-encode cap r (encode rs) (l .0))
+    ∙ ap (λ (s : List ℕ). onto r (readFrom (r .level + 1) 0 s)) (drop-at (encodeOne r) (encode rs) (size r) (length-encodeOne r))
+    ∙ ap (onto r) (read-encode (r .level + 1) rs (l .1))
+
+-- ---- encoding what was read: n bounds the length
+
+pub record Encodes (cap : ℕ) (s : List ℕ) (rs : List Rec) : Type 0 where
+  pub lawful : Lawful cap rs
+  pub stream : encode rs ≡ s
+
+unstopped : (f : Fault) → some f ≡ none → ⊥
+unstopped f e = let z : _≡_ {A = ℕ} 0 1 = cc in omega arith
+
+-- at a record, where the rest behind it does
+encodes-next : (cap : ℕ) (s : List ℕ) (r : Rec) → Bytes s → 0 < length s → standsAt cap s ≡ whole r
+    → Encodes (r .level + 1) (drop (size r) s) (readFrom (r .level + 1) 0 (drop (size r) s) .recs) → Encodes cap s (readFrom cap 0 s .recs)
+unfolding encode onto
+encodes-next cap s r bs h q rest =
+    let k = found cap s bs r q in
+    rw (read-next cap s r h q)
+    (record {
+      lawful = (k .obeys, rest .lawful);
+      stream = ap₂ (λ (a b : List ℕ). a ++ b) (k .bytes) (rest .stream) ∙ take-append-drop (size r) s;
+    })
+
+stop-next : (cap : ℕ) (s : List ℕ) (r : Rec) → 0 < length s → standsAt cap s ≡ whole r
+    → readFrom cap 0 s .stop ≡ readFrom (r .level + 1) 0 (drop (size r) s) .stop
+unfolding onto
+stop-next cap s r h q = ap (λ (y : Read). y .stop) (read-next cap s r h q)
+
+encodes-end : (cap : ℕ) (s : List ℕ) → length s ≤ 0 → Encodes cap s (readFrom cap 0 s .recs)
+unfolding encode
+encodes-end cap [] h = rw (read-end cap [] refl) (record { lawful = tt; stream = refl })
+encodes-end cap (x ∷ s) h = absurd (omega arith)
+
+-- at what stands at the front, where the rest behind a record does
+encodes-by : (cap : ℕ) (s : List ℕ) (a : Stands) → standsAt cap s ≡ a → Bytes s → 0 < length s → readFrom cap 0 s .stop ≡ none
+    → ((r : Rec) → standsAt cap s ≡ whole r → Encodes (r .level + 1) (drop (size r) s) (readFrom (r .level + 1) 0 (drop (size r) s) .recs))
+    → Encodes cap s (readFrom cap 0 s .recs)
+encodes-by cap s (fault f) q bs h e rest = absurd (unstopped f (sym (ap (λ (y : Read). y .stop) (read-stop cap s f h q)) ∙ e))
+encodes-by cap s (whole r) q bs h e rest = encodes-next cap s r bs h q (rest r q)
+
+encode-read-within : (n cap : ℕ) (s : List ℕ) → length s ≤ n → Bytes s → readFrom cap 0 s .stop ≡ none → Encodes cap s (readFrom cap 0 s .recs)
+encode-read-within zero cap s h bs e = encodes-end cap s h
+encode-read-within (suc n) cap s h bs e =
+    elim (decLe (length s) 0) [
+      | yes g ↦ encodes-end cap s g
+      | no g ↦
+          let m : 0 < length s = lt-of-not-le g in
+          encodes-by cap s (standsAt cap s) refl bs m e
+          (λ r q.
+          encode-read-within n (r .level + 1) (drop (size r) s) (omega (arith, length-drop (size r) s, size-least r)) (bytes-drop (size r) s bs)
+          (sym (stop-next cap s r m q) ∙ e))
+    ]
+
+pub encode-read : (cap : ℕ) (s : List ℕ) → Bytes s → readFrom cap 0 s .stop ≡ none → Encodes cap s (readFrom cap 0 s .recs)
+encode-read cap s bs e = encode-read-within (length s) cap s (omega arith) bs e
+
+-- ---- a pass over a stream: what is known where a header was read at `at`
+
+-- a header's numbers, 0 of a refusal
+abbrev numbers : (Header → ℕ) → Front → ℕ
+numbers f (H.Record h) = f h
+numbers f (H.Refused r) = 0
+
+pub record Here (s : List ℕ) (at cap : ℕ) (h : Header) : Type 0 where
+  pub rec : Rec
+  pub stands : standsAt cap (drop at s) ≡ whole rec
+  pub tag-is : h .tag ≡ rec .tag
+  pub level-is : h .level ≡ rec .level
+  pub lead-is : h .lead ≡ leadOf (length (rec .body))
+  pub length-is : h .length ≡ length (rec .body)
+  pub size-is : h .lead + h .length ≡ size rec
+  pub size-low : 4 ≤ size rec
+  pub obeys : Obeys cap rec
+  pub inside : at + size rec ≤ length s
+  pub bytes : encodeOne rec ≡ take (size rec) (drop at s)
+  pub next : readFrom cap 0 (drop at s) ≡ onto rec (readFrom (rec .level + 1) 0 (drop (at + size rec) s))
+
+module _ (s : List ℕ) (at cap : ℕ) (bs : Bytes s) (h : at < length s) where
+  some-left : 0 < length (drop at s)
+  some-left = omega (arith, length-drop at s)
+
+  here-by : (a : Stands) (k : Header) → standsAt cap (drop at s) ≡ a → frontOf a ≡ H.Record k → Here s at cap k
+  unfolding size
+  here-by (fault f) k q e = absurd (let z : _≡_ {A = ℕ} 0 1 = cc in omega arith)
+  here-by (whole r) k q e =
+      let d = found cap (drop at s) (bytes-drop at s bs) r q in
+      let t : k .tag ≡ r .tag = sym (ap (numbers (λ h. h .tag)) e) in
+      let l : k .level ≡ r .level = sym (ap (numbers (λ h. h .level)) e) in
+      let m : k .lead ≡ leadOf (length (r .body)) = sym (ap (numbers (λ h. h .lead)) e) in
+      let n : k .length ≡ length (r .body) = sym (ap (numbers (λ h. h .length)) e) in
+      record {
+        rec = r;
+        stands = q;
+        tag-is = t;
+        level-is = l;
+        lead-is = m;
+        length-is = n;
+        size-is = omega arith;
+        size-low = omega (arith, lead-bounds (length (r .body)));
+        obeys = d .obeys;
+        inside = omega (arith, d .inside, length-drop at s);
+        bytes = d .bytes;
+        next = read-next cap (drop at s) r some-left q ∙ ap (λ (l : List ℕ). onto r (readFrom (r .level + 1) 0 l)) (drop-drop (size r) at s);
+      }
+
+  -- at a header that was read from the part behind `at`
+  pub here : (k : Header) → frontOf (standsAt cap (take (length s - at) (drop at s))) ≡ H.Record k → Here s at cap k
+  here k e = here-by (standsAt cap (drop at s)) k refl (ap (λ (l : List ℕ). frontOf (standsAt cap l)) (sym (part-rest s at)) ∙ e)
+
+  stop-by : (a : Stands) (f : Fault) → standsAt cap (drop at s) ≡ a → frontOf a ≡ H.Refused f → readFrom cap 0 (drop at s) ≡ record { recs = []; stop = some f }
+  stop-by (fault g) f q e = let same : g ≡ f = cc in read-stop cap (drop at s) g some-left q ∙ rw same
+  stop-by (whole r) f q e = absurd (let z : _≡_ {A = ℕ} 0 1 = cc in omega arith)
+
+  pub stops-here : (f : Fault) → frontOf (standsAt cap (take (length s - at) (drop at s))) ≡ H.Refused f
+      → readFrom cap 0 (drop at s) ≡ record { recs = []; stop = some f }
+  stops-here f e = stop-by (standsAt cap (drop at s)) f refl (ap (λ (l : List ℕ). frontOf (standsAt cap l)) (sym (part-rest s at)) ∙ e)
+
+pub ends-here : (s : List ℕ) (at cap : ℕ) → length s ≤ at → readFrom cap 0 (drop at s) ≡ record { recs = []; stop = none }
+ends-here s at cap h = read-end cap (drop at s) (omega (arith, length-drop at s))
