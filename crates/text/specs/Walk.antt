@@ -5,9 +5,10 @@ use mathlib.Core.Bool.{Bool, true, false, cond, _||_, not}
 use mathlib.Core.Option.{Option, none, some}
 use mathlib.Core.List.{List, [], _∷_}
 use lib.Dec.{ltb, eqb}
-use lib.ListN.{length, getD}
+use lib.ListN.{length, getD, drop}
 use Rattle.text.specs.declared.Class.{Class}
 use Rattle.text.specs.declared.Class.the-variants.{Character, Inline, Extended}
+use Rattle.text.specs.declared.Control as declared
 use Rattle.text.specs.declared.Standing.{Standing}
 use Rattle.text.specs.declared.Standing.the-variants.{Ordinary, Control}
 
@@ -23,9 +24,12 @@ classOf u =
     cond (among u (1 ∷ 2 ∷ 3 ∷ 11 ∷ 12 ∷ 14 ∷ 15 ∷ 16 ∷ 17 ∷ 18 ∷ 21 ∷ 22 ∷ 23 ∷ [])) Extended
     (cond (among u (4 ∷ 5 ∷ 6 ∷ 7 ∷ 8 ∷ 9 ∷ 19 ∷ 20 ∷ [])) Inline Character)
 
+abbrev pub control : ℕ → declared.Control
+control u = record { class = classOf u; code = u }
+
 -- what a unit begins: units from 32 up are ordinary
 unfoldable pub what : ℕ → Standing
-what u = cond (ltb u 32) (Control (record { class = classOf u; code = u })) (Ordinary u)
+what u = cond (ltb u 32) (Control (control u)) (Ordinary u)
 
 abbrev pub classWidth : Class → ℕ
 classWidth Character = 1
@@ -76,6 +80,10 @@ walk p (suc k) (u ∷ us) = walk (p + 1) k us
 unfoldable pub tokens : List ℕ → List Token
 tokens us = walk 0 0 us
 
+-- those from a position on where a token begins
+abbrev pub tokensAt : List ℕ → ℕ → List Token
+tokensAt us p = walk p 0 (drop p us)
+
 abbrev pub isExtended : Standing → ℕ
 isExtended (Ordinary u) = 0
 isExtended (Control c) = elim (c .class) [ Character ↦ 0 | Inline ↦ 0 | Extended ↦ 1 ]
@@ -99,6 +107,9 @@ unfoldable pub fault : ℕ → ℕ → List ℕ → Option ℕ
 fault p k [] = none
 fault p zero (u ∷ us) = faultOr p (front (u ∷ us)) (fault (p + 1) (width (what u) - 1) us)
 fault p (suc k) (u ∷ us) = fault (p + 1) k us
+
+abbrev pub faultAt : List ℕ → ℕ → Option ℕ
+faultAt us p = fault p 0 (drop p us)
 
 -- the same of a whole text; where there is no unit, 13 is lacking
 unfoldable pub textFault : List ℕ → Option ℕ

@@ -1,9 +1,9 @@
 // A paragraph's text: what stands at each position, and whether the text keeps its rules.
 ghost use mathlib.Core.Path.{_≡_};
-ghost use Prim.Native.Nat.{_<_};
+ghost use Prim.Native.Nat.{_+_, _*_, _≤_, _<_};
 ghost use lib.ListN.{getD};
 ghost use Rattle.text.specs.Units.{units};
-ghost use Rattle.text.specs.Walk.{classOf};
+ghost use Rattle.text.specs.Walk.{what, width, isExtended};
 ghost use Rattle.text.specs.Answers.{stepAt, cursor, judged};
 
 // A position of the text, in units; it is never added to a byte offset.
@@ -48,30 +48,171 @@ pub enum Judged {
     Broken(Position),
 }
 
-fn wide(x: u8) -> u32
-    ensures { λ r. ⌜ (r ≡ x) × (r < 256) ⌝ }
-{
-    x as u32
-}
-
 // The unit at a position, or 0 where there is none.
 fn unit(text: &[u8], p: usize) -> u32
     ensures { λ r. ⌜ r ≡ getD (units (now (text .entry))) p 0 ⌝ }
 {
     if p < text.len() / 2 {
-        wide(text[2 * p]) + 256 * wide(text[2 * p + 1])
+        let at = 2 * p;
+        numbers::number16(&text[at..])
     } else {
         0
     }
 }
 
-// Table 6.
-fn class_of(code: u32) -> Class
-    ensures { λ r. ⌜ r ≡ classOf code ⌝ }
+// Table 6, by the code; unit 0 is refused before its class is asked.
+const TABLE_6: [Class; 32] = [
+    Class::Character,
+    Class::Extended,
+    Class::Extended,
+    Class::Extended,
+    Class::Inline,
+    Class::Inline,
+    Class::Inline,
+    Class::Inline,
+    Class::Inline,
+    Class::Inline,
+    Class::Character,
+    Class::Extended,
+    Class::Extended,
+    Class::Character,
+    Class::Extended,
+    Class::Extended,
+    Class::Extended,
+    Class::Extended,
+    Class::Extended,
+    Class::Inline,
+    Class::Inline,
+    Class::Extended,
+    Class::Extended,
+    Class::Extended,
+    Class::Character,
+    Class::Character,
+    Class::Character,
+    Class::Character,
+    Class::Character,
+    Class::Character,
+    Class::Character,
+    Class::Character,
+];
+
+// What a unit begins.
+fn begun(u: u32) -> Standing
+    ensures { λ r. ⌜ r ≡ what u ⌝ }
 {
-    match code {
-        1..=3 | 11 | 12 | 14..=18 | 21..=23 => Class::Extended,
-        4..=9 | 19 | 20 => Class::Inline,
-        _ => Class::Character,
+    if 32 <= u {
+        return Standing::Ordinary(u);
+    }
+    let i = u as usize;
+    let class = TABLE_6[i];
+    Standing::Control(Control { class, code: u })
+}
+
+// How many positions it takes.
+fn positions(what: Standing) -> usize
+    ensures { λ r. ⌜ (r ≡ width what) × (1 ≤ r) ⌝ }
+{
+    match what {
+        Standing::Ordinary(_) => 1,
+        Standing::Control(c) => {
+            let class = c.class;
+            match class {
+                Class::Character => 1,
+                Class::Inline => 8,
+                Class::Extended => 8,
+            }
+        }
+    }
+}
+
+impl Cursor {
+    pub fn start() -> Cursor
+        ensures { λ r. ⌜ r ≡ cursor 0 ⌝ }
+    {
+        Cursor { at: Position(0) }
+    }
+
+    // What stands at the cursor, and the cursor behind it.
+    pub fn step(self, text: &[u8]) -> Step
+        ensures { λ r. ⌜ r ≡ stepAt (units (now (text .entry))) (self .at .0) ⌝ }
+    {
+        let at = self.at;
+        let p = at.0;
+        if text.len() / 2 <= p {
+            return Step::End;
+        }
+        let left = text.len() / 2 - p;
+        let u = unit(text, p);
+        let what = begun(u);
+        let n = positions(what);
+        if u == 0 {
+            return Step::Broken(at);
+        }
+        if left < n {
+            return Step::Broken(at);
+        }
+        let last = p + (n - 1);
+        if unit(text, last) != u {
+            return Step::Broken(Position(last));
+        }
+        if left == n {
+            if u != 13 {
+                return Step::Broken(Position(p + n));
+            }
+        } else {
+            if u == 13 {
+                return Step::Broken(at);
+            }
+        }
+        Step::Stands {
+            at,
+            what,
+            next: Cursor {
+                at: Position(p + n),
+            },
+        }
+    }
+}
+
+// 1 of an extended control, else 0.
+fn extended(what: Standing) -> usize
+    ensures { λ r. ⌜ r ≡ isExtended what ⌝ }
+{
+    match what {
+        Standing::Ordinary(_) => 0,
+        Standing::Control(c) => {
+            let class = c.class;
+            match class {
+                Class::Character => 0,
+                Class::Inline => 0,
+                Class::Extended => 1,
+            }
+        }
+    }
+}
+
+// Walks a whole text.
+pub fn judge(text: &[u8]) -> Judged
+    ensures { λ r. ⌜ r ≡ judged (units (now (text .entry))) ⌝ }
+{
+    if text.len() < 2 {
+        return Judged::Broken(Position(0));
+    }
+    let mut cursor = Cursor::start();
+    let mut count = 0;
+    loop {
+        let step = cursor.step(text);
+        match step {
+            Step::Stands { at: _, what, next } => {
+                count += extended(what);
+                cursor = next;
+            }
+            Step::Broken(p) => {
+                return Judged::Broken(p);
+            }
+            Step::End => {
+                return Judged::Sound(count);
+            }
+        }
     }
 }

@@ -1,0 +1,6 @@
+pub mod Cases
+pub mod UnitLaws
+pub mod TableLaws
+pub mod WalkLaws
+pub mod StepLaws
+pub mod JudgeLaws

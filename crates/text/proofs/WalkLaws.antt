@@ -1,0 +1,215 @@
+-- The walk's clauses: what stands at a position, and the walk behind it. Assumes nothing.
+use Prim.Native.Nat.{ℕ, zero, suc, _+_, _-_, _≤_, _<_}
+use native.Mathlib.Omega.{arith}
+use mathlib.Core.Path.{_≡_, refl, sym, ap, _∙_}
+use mathlib.Core.Logic.{_⊎_, inl, inr}
+use mathlib.Core.Bool.{Bool, true, false, cond, not}
+use mathlib.Core.Option.{Option, none, some}
+use mathlib.Core.List.{List, [], _∷_}
+use lib.Dec.{ltb, eqb}
+use lib.ListN.{length, getD, drop, length-drop, drop-of-length-le}
+use lib.Seq.{drop-cons, drop-drop, drop-nil, getD-drop}
+use borrow.Author.Tests.{lt-ltb, le-ltb, eq-eqb, ne-eqb, ltb-false, eqb-true, eqb-false, not-false}
+use Rattle.text.specs.Walk.{what, width, Front, stands, broken, over, token, front, Token, walk, tokensAt, fault, faultOr, faultAt}
+use Rattle.text.specs.Answers.{place, stepOf, stepAt}
+use Rattle.text.specs.declared.Standing.{Standing}
+use Rattle.text.specs.declared.Position.{Position}
+use Rattle.text.specs.declared.Cursor.{Cursor}
+use Rattle.text.specs.declared.Step.{Step}
+use Rattle.text.specs.declared.Step.the-variants.{Stands, Broken, End}
+use Rattle.text.proofs.Cases.{lt-or, eq-or}
+use Rattle.text.proofs.TableLaws.{width-or}
+
+-- ---- what stands at the front
+
+-- what `token` asks, read off the whole text
+pub front-at : (us : List ℕ) (p : ℕ) → p < length us
+    → front (drop p us) ≡ token (getD us p 0) (width (what (getD us p 0))) (length us - p) (getD us (p + (width (what (getD us p 0)) - 1)) 0)
+unfolding front
+front-at us p h =
+    go (drop p us) (drop-cons us p 0 h) (simp length-drop (omega arith)) (λ i. getD-drop p us i 0)
+  where
+    go : (l : List ℕ) → l ≡ getD us p 0 ∷ drop (suc p) us → suc (length (drop (suc p) us)) ≡ length us - p
+        → ((i : ℕ) → getD l i 0 ≡ getD us (p + i) 0)
+        → front l ≡ token (getD us p 0) (width (what (getD us p 0))) (length us - p) (getD us (p + (width (what (getD us p 0)) - 1)) 0)
+    go l e n at = rw e (rw (n, ← at, ← e))
+
+-- a token stands: its unit is not 0, it is whole and ends with its own code, and it is a 13 exactly at the end
+pub record Stood (u n left last : ℕ) : Type 0 where
+  pub known : u ≡ 0 → ⊥
+  pub whole : n ≤ left
+  pub closed : last ≡ u
+  pub ends : ((u ≡ 13) × (left ≡ n)) ⊎ ((u ≡ 13 → ⊥) × (n < left))
+
+pub stood-token : (u n left last : ℕ) → Stood u n left last → token u n left last ≡ stands (what u)
+unfolding token
+stood-token u n left last h = rw (ne-eqb u 0 (h .known), le-ltb left n (h .whole), eq-eqb last u (h .closed)) (go (h .ends))
+  where
+    go : ((u ≡ 13) × (left ≡ n)) ⊎ ((u ≡ 13 → ⊥) × (n < left))
+        → cond (eqb left n) (cond (eqb u 13) (stands (what u)) (broken n)) (cond (eqb u 13) (broken 0) (stands (what u))) ≡ stands (what u)
+    go (inl e) = rw (eq-eqb left n (e .1), eq-eqb u 13 (e .0))
+    go (inr e) = rw (ne-eqb left n (λ q. omega (arith, q, e .1)), ne-eqb u 13 (e .0))
+
+passes : (t : Bool) (d : ℕ) (rest : Front) (s : Standing) → cond t (broken d) rest ≡ stands s → (t ≡ false) × (rest ≡ stands s)
+passes true d rest s e = absurd (let z : _≡_ {A = ℕ} 0 1 = cc in omega arith)
+passes false d rest s e = (refl, e)
+
+pub token-stood : (u n left last : ℕ) (s : Standing) → token u n left last ≡ stands s → Stood u n left last × (s ≡ what u)
+unfolding token
+token-stood u n left last s e =
+    let a = passes (eqb u 0) 0 _ s e in
+    let b = passes (ltb left n) 0 _ s (a .1) in
+    let c = passes (not (eqb last u)) (n - 1) _ s (b .1) in
+    let whole = ltb-false left n (b .0) in
+    let f = end whole (c .1) in
+    (record { known = eqb-false u 0 (a .0); whole = whole; closed = eqb-true last u (not-false (eqb last u) (c .0)); ends = f .0 }, f .1)
+  where
+    end : n ≤ left → cond (eqb left n) (cond (eqb u 13) (stands (what u)) (broken n)) (cond (eqb u 13) (broken 0) (stands (what u))) ≡ stands s
+        → (((u ≡ 13) × (left ≡ n)) ⊎ ((u ≡ 13 → ⊥) × (n < left))) × (s ≡ what u)
+    end w g = elim (eq-or left n) [
+      | inl l ↦ elim (eq-or u 13) [
+        | inl x ↦ (let q : stands (what u) ≡ stands s = rw (eq-eqb left n l, eq-eqb u 13 x) at g in (inl (x, l), cc))
+        | inr x ↦ (let q : broken n ≡ stands s = rw (eq-eqb left n l, ne-eqb u 13 x) at g in absurd (let z : _≡_ {A = ℕ} 0 1 = cc in omega arith))
+      ]
+      | inr l ↦ elim (eq-or u 13) [
+        | inl x ↦ (let q : broken 0 ≡ stands s = rw (ne-eqb left n l, eq-eqb u 13 x) at g in absurd (let z : _≡_ {A = ℕ} 0 1 = cc in omega arith))
+        | inr x ↦ (let q : stands (what u) ≡ stands s = rw (ne-eqb left n l, ne-eqb u 13 x) at g in (inr (x, omega arith), cc))
+      ]
+    ]
+
+either {ℓ κ} : {A : Type ℓ} (P : A → Type κ) (t : Bool) {x y : A} → P x → P y → P (cond t x y)
+either P true a b = a
+either P false a b = b
+
+abbrev Left : Front → Type 0
+Left f = f ≡ over → ⊥
+
+broken-left : (d : ℕ) → Left (broken d)
+broken-left d e = let z : _≡_ {A = ℕ} 0 1 = cc in omega arith
+
+stands-left : (s : Standing) → Left (stands s)
+stands-left s e = let z : _≡_ {A = ℕ} 0 1 = cc in omega arith
+
+-- where a unit is left, the text is not over
+token-left : (u n left last : ℕ) → Left (token u n left last)
+unfolding token
+token-left u n left last =
+    either Left (eqb u 0) (broken-left 0)
+    (either Left (ltb left n) (broken-left 0)
+    (either Left (not (eqb last u)) (broken-left (n - 1))
+    (either Left (eqb left n)
+    (either Left (eqb u 13) (stands-left (what u)) (broken-left n))
+    (either Left (eqb u 13) (broken-left 0) (stands-left (what u))))))
+
+-- ---- the walk behind a token
+
+pub walk-skip : (p k : ℕ) (us : List ℕ) → walk p k us ≡ walk (p + k) 0 (drop k us)
+unfolding walk
+walk-skip p k [] = rw (drop-nil {A = ℕ} k)
+walk-skip p zero (u ∷ us) = let e : p + 0 ≡ p = omega arith in rw e
+walk-skip p (suc k) (u ∷ us) = let e : p + suc k ≡ p + 1 + k = omega arith in rw e (walk-skip (p + 1) k us)
+
+pub fault-skip : (p k : ℕ) (us : List ℕ) → fault p k us ≡ fault (p + k) 0 (drop k us)
+unfolding fault
+fault-skip p k [] = rw (drop-nil {A = ℕ} k)
+fault-skip p zero (u ∷ us) = let e : p + 0 ≡ p = omega arith in rw e
+fault-skip p (suc k) (u ∷ us) = let e : p + suc k ≡ p + 1 + k = omega arith in rw e (fault-skip (p + 1) k us)
+
+-- what passes units over does so behind a token
+behind {ℓ} : {A : Type ℓ} (f : ℕ → ℕ → List ℕ → A) → ((p k : ℕ) (us : List ℕ) → f p k us ≡ f (p + k) 0 (drop k us))
+    → (p u n : ℕ) (us : List ℕ) → 0 < n → f (p + 1) (n - 1) us ≡ f (p + n) 0 (drop n (u ∷ us))
+behind f skip p u zero us h = absurd (omega arith)
+behind f skip p u (suc m) us h =
+    let e : p + suc m ≡ p + 1 + m = omega arith in
+    let d : suc m - 1 ≡ m = omega arith in
+    rw (e, d) (skip (p + 1) m us)
+
+width-pos : (s : Standing) → 0 < width s
+width-pos s = elim (width-or s) [ inl e ↦ omega arith | inr e ↦ omega arith ]
+
+-- a token stands at the front, and the walk goes on behind it
+pub record Passed (p : ℕ) (us : List ℕ) (s : Standing) : Type 0 where
+  pub wide : 0 < width s
+  pub fits : width s ≤ length us
+  pub tokens : walk p 0 us ≡ record { at = p; what = s } ∷ walk (p + width s) 0 (drop (width s) us)
+  pub fault : fault p 0 us ≡ fault (p + width s) 0 (drop (width s) us)
+
+pub passed : (p : ℕ) (us : List ℕ) (s : Standing) → front us ≡ stands s → Passed p us s
+unfolding front walk fault
+passed p [] s e = absurd (let z : _≡_ {A = ℕ} 0 1 = cc in omega arith)
+passed p (u ∷ us) s e = go (token-stood u (width (what u)) (suc (length us)) _ s e)
+  where
+    go : Stood u (width (what u)) (suc (length us)) (getD (u ∷ us) (width (what u) - 1) 0) × (s ≡ what u) → Passed p (u ∷ us) s
+    go t = rw (t .1) (record {
+      wide = width-pos (what u);
+      fits = t .0 .whole;
+      tokens = ap (λ (r : List Token). record { at = p; what = what u } ∷ r) (behind walk walk-skip p u (width (what u)) us (width-pos (what u)));
+      fault = rw (stood-token u (width (what u)) (suc (length us)) _ (t .0)) (behind fault fault-skip p u (width (what u)) us (width-pos (what u)));
+    })
+
+-- ---- by the steps of the code
+
+-- the walk stands at p before s and goes on at q
+pub record Onward (us : List ℕ) (p : ℕ) (s : Standing) (q : ℕ) : Type 0 where
+  pub further : q ≡ p + width s
+  pub rises : p < q
+  pub fits : q ≤ length us
+  pub tokens : tokensAt us p ≡ record { at = p; what = s } ∷ tokensAt us q
+  pub fault : faultAt us p ≡ faultAt us q
+
+onward : (us : List ℕ) (p : ℕ) (s : Standing) → front (drop p us) ≡ stands s → Onward us p s (p + width s)
+onward us p s e =
+    let t = passed p (drop p us) s e in
+    let d : drop (width s) (drop p us) ≡ drop (p + width s) us = drop-drop (width s) p us in
+    record {
+      further = refl;
+      rises = omega (arith, t .wide);
+      fits = omega (arith, t .wide, simp length-drop at (t .fits));
+      tokens = rw d at (t .tokens);
+      fault = rw d at (t .fault);
+    }
+
+pub step-stands : (us : List ℕ) (p : ℕ) (a : Position) (s : Standing) (c : Cursor) → stepAt us p ≡ Stands a s c
+    → (a ≡ place p) × Onward us p s (c .at .0)
+unfolding stepAt
+step-stands us p a s c e = go (front (drop p us)) refl e
+  where
+    go : (f : Front) → front (drop p us) ≡ f → stepOf p f ≡ Stands a s c → (a ≡ place p) × Onward us p s (c .at .0)
+    go (stands t) h q =
+        let x : t ≡ s = cc in
+        let y : c ≡ record { at = place (p + width t) } = cc in
+        (cc, rw (y, ← x) (onward us p t h))
+    go (broken d) h q = absurd (let z : _≡_ {A = ℕ} 0 1 = cc in omega arith)
+    go over h q = absurd (let z : _≡_ {A = ℕ} 0 1 = cc in omega arith)
+
+fault-front : (p d : ℕ) (us : List ℕ) → front us ≡ broken d → fault p 0 us ≡ some (p + d)
+unfolding front fault
+fault-front p d [] e = absurd (let z : _≡_ {A = ℕ} 0 1 = cc in omega arith)
+fault-front p d (u ∷ us) e = rw e
+
+pub step-broken : (us : List ℕ) (p : ℕ) (q : Position) → stepAt us p ≡ Broken q → faultAt us p ≡ some (q .0)
+unfolding stepAt
+step-broken us p q e = go (front (drop p us)) refl e
+  where
+    go : (f : Front) → front (drop p us) ≡ f → stepOf p f ≡ Broken q → faultAt us p ≡ some (q .0)
+    go (stands t) h r = absurd (let z : _≡_ {A = ℕ} 0 1 = cc in omega arith)
+    go (broken d) h r = let x : q ≡ place (p + d) = cc in rw x (fault-front p d (drop p us) h)
+    go over h r = absurd (let z : _≡_ {A = ℕ} 0 1 = cc in omega arith)
+
+over-of : (p : ℕ) (f : Front) → stepOf p f ≡ End → f ≡ over
+over-of p (stands s) e = absurd (let z : _≡_ {A = ℕ} 0 1 = cc in omega arith)
+over-of p (broken d) e = absurd (let z : _≡_ {A = ℕ} 0 1 = cc in omega arith)
+over-of p over e = refl
+
+-- no token is left
+pub record Ended (us : List ℕ) (p : ℕ) : Type 0 where
+  pub tokens : tokensAt us p ≡ []
+  pub fault : faultAt us p ≡ none
+
+pub step-end : (us : List ℕ) (p : ℕ) → stepAt us p ≡ End → Ended us p
+unfolding stepAt front walk fault
+step-end us p e = go (drop p us) refl e
+  where
+    go : (l : List ℕ) → drop p us ≡ l → stepOf p (front l) ≡ End → Ended us p
+    go [] d q = record { tokens = rw d; fault = rw d }
+    go (u ∷ l) d q = absurd (token-left u _ _ _ (over-of p (front (u ∷ l)) q))
