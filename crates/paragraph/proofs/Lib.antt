@@ -1,1 +1,3 @@
 pub mod ViewLaws
+pub mod StreamLaws
+pub mod FindLaws

@@ -1,7 +1,11 @@
 // One paragraph: its view and its rules (document 01, 'Paragraphs').
+mod children;
 mod finding;
 mod view;
 
+pub use children::Found;
+pub use children::Part;
+pub use children::find;
 pub use finding::Counts;
 pub use finding::Finding;
 pub use finding::Which;
