@@ -1,3 +1,4 @@
 pub mod ViewLaws
 pub mod StreamLaws
 pub mod FindLaws
+pub mod EntryLaws

@@ -6,6 +6,8 @@ use mathlib.Core.List.{List, [], _∷_}
 use lib.Dec.{ltb, leb}
 use lib.ListN.{length, drop}
 use Rattle.numbers.specs.Little.{little}
+use Rattle.paragraph.specs.declared.entries.Entries.{Entries}
+use Rattle.paragraph.specs.declared.entries.Entries.the-variants as E
 
 -- the first n entries of a body, w bytes each: the bytes from each entry on
 unfoldable pub entries : ℕ → ℕ → List ℕ → List (List ℕ)
@@ -32,3 +34,8 @@ markFault i count (e ∷ es) =
 -- 12 bytes each
 unfoldable pub marksFault : ℕ → List ℕ → Option ℕ
 marksFault count b = markFault 0 count (entries 12 (length b / 12) b)
+
+-- what a judge of entries answers
+abbrev pub entriesOf : Option ℕ → Entries
+entriesOf none = E.Sound
+entriesOf (some i) = E.Wrong i
