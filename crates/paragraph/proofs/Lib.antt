@@ -2,3 +2,6 @@ pub mod ViewLaws
 pub mod StreamLaws
 pub mod FindLaws
 pub mod EntryLaws
+pub mod BodyLaws
+pub mod FieldLaws
+pub mod RuleLaws

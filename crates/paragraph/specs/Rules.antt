@@ -17,6 +17,8 @@ use Rattle.text.specs.declared.Standing.the-variants.{Ordinary, Control}
 use Rattle.paragraph.specs.View.{View, view, child, controls}
 use Rattle.paragraph.specs.Entries.{shapesFault, marksFault}
 use Rattle.paragraph.specs.declared.finding.Counts.{Counts}
+use Rattle.paragraph.specs.declared.fields.Owner.{Owner}
+use Rattle.paragraph.specs.declared.fields.Owner.the-variants as O
 use Rattle.paragraph.specs.declared.finding.Which.{Which}
 use Rattle.paragraph.specs.declared.finding.Which.the-variants as W
 use Rattle.paragraph.specs.declared.finding.Finding.{Finding}
@@ -80,18 +82,18 @@ abbrev pub unwanted : ℕ → Option ℕ → Bool
 unwanted number none = false
 unwanted number (some n) = eqb number 0
 
--- or its length is not `each` bytes for each of its number
+-- or its length is not the number of bytes that its number asks for
 abbrev pub misfits : ℕ → ℕ → Option ℕ → Bool
-misfits each number none = false
-misfits each number (some n) = eqb number 0 || not (eqb n (each * number))
+misfits number asked none = false
+misfits number asked (some n) = eqb number 0 || not (eqb n asked)
 
 -- 11 in tag order; the layout's body is not examined
 unfoldable pub lengthFault : Counts → Lengths → Finding
 lengthFault c l =
-    guard (misfits 2 (c .count) (l .text)) (ofChild 67 F.LengthWrong)
-    (guard (misfits 8 (c .shapes) (l .shapes)) (ofChild 68 F.LengthWrong)
+    guard (misfits (c .count) (2 * c .count) (l .text)) (ofChild 67 F.LengthWrong)
+    (guard (misfits (c .shapes) (8 * c .shapes) (l .shapes)) (ofChild 68 F.LengthWrong)
     (guard (unwanted (c .lines) (l .layout)) (ofChild 69 F.LengthWrong)
-    (guard (misfits 12 (c .marks) (l .marks)) (ofChild 70 F.LengthWrong) G.Lawful)))
+    (guard (misfits (c .marks) (12 * c .marks) (l .marks)) (ofChild 70 F.LengthWrong) G.Lawful)))
 
 -- ---- 12 and 13, by the bodies
 
@@ -99,34 +101,38 @@ abbrev pub isSome : Option ℕ → Bool
 isSome none = false
 isSome (some n) = true
 
--- a test of a body that is present
-abbrev pub ifThere : (List ℕ → Option ℕ) → Option (List ℕ) → Bool
-ifThere test none = false
-ifThere test (some b) = isSome (test b)
+-- 12: a text that is present breaks a rule
+abbrev pub textBroken : Option (List ℕ) → Bool
+textBroken none = false
+textBroken (some b) = isSome (textFault (units b))
 
--- 12, then 13 of shapes and of marks
-unfoldable pub contentFault : ℕ → List Rec → Finding
-contentFault count own =
-    guard (ifThere (λ b. textFault (units b)) (child 67 own)) (ofChild 67 F.TextRule)
-    (guard (ifThere (shapesFault count) (child 68 own)) (ofChild 68 F.EntriesWrong)
-    (guard (ifThere (marksFault count) (child 70 own)) (ofChild 70 F.EntriesWrong) G.Lawful))
+-- the bytes of a body; an absent record has none: no entries, and no units that matter here, since an absent text is empty or the lone
+-- unit 13
+abbrev pub bytesIn : Option (List ℕ) → List ℕ
+bytesIn none = []
+bytesIn (some b) = b
+
+-- 13 of shapes, then of marks
+unfoldable pub entryFault : ℕ → List ℕ → List ℕ → Finding
+entryFault count shapes marks =
+    guard (isSome (shapesFault count shapes)) (ofChild 68 F.EntriesWrong)
+    (guard (isSome (marksFault count marks)) (ofChild 70 F.EntriesWrong) G.Lawful)
 
 -- ---- 14 and 15
 
--- the units of the text; an absent text has no control that counts here, since it is empty or the lone unit 13
-abbrev pub textUnits : Option (List ℕ) → List ℕ
-textUnits none = []
-textUnits (some b) = units b
+-- the code of an extended control, which owns a control header
+abbrev pub ownerOf : Standing → Owner
+ownerOf (Ordinary u) = O.Nobody
+ownerOf (Control c) = elim (c .class) [ Character ↦ O.Nobody | Inline ↦ O.Nobody | Extended ↦ O.Owner (c .code) ]
 
--- the code of an extended control before those behind it
-abbrev pub codeBefore : Standing → List ℕ → List ℕ
-codeBefore (Ordinary u) cs = cs
-codeBefore (Control c) cs = elim (c .class) [ Character ↦ cs | Inline ↦ cs | Extended ↦ c .code ∷ cs ]
+abbrev pub codeBefore : Owner → List ℕ → List ℕ
+codeBefore O.Nobody cs = cs
+codeBefore (O.Owner code) cs = code ∷ cs
 
 -- the codes of the extended controls, in text order
 unfoldable pub codesIn : List Token → List ℕ
 codesIn [] = []
-codesIn (t ∷ ts) = codeBefore (t .what) (codesIn ts)
+codesIn (t ∷ ts) = codeBefore (ownerOf (t .what)) (codesIn ts)
 
 -- a field's control header holds at least 15 + 2 x length bytes, with the command's length at 9
 unfoldable pub fieldShort : List ℕ → Bool
@@ -144,15 +150,24 @@ controlFault us bs = guard (not (eqb (extendedCount us) (length bs))) (ofHeader 
 
 -- ---- the whole
 
+-- behind 10 and 11
+unfoldable pub bodyFault : ℕ → Option (List ℕ) → List ℕ → List ℕ → List (List ℕ) → Finding
+bodyFault count text shapes marks bs =
+    guard (textBroken text) (ofChild 67 F.TextRule) (orElse (entryFault count shapes marks) (controlFault (units (bytesIn text)) bs))
+
 -- behind a header of 22 bytes or more
 unfoldable pub partsFault : Counts → List Rec → Finding
 partsFault c own =
     guard (absent c (lengthsOf own)) (ofHeader F.RecordAbsent)
     (orElse (lengthFault c (lengthsOf own))
-    (orElse (contentFault (c .count) own) (controlFault (textUnits (child 67 own)) (controls own))))
+    (bodyFault (c .count) (child 67 own) (bytesIn (child 68 own)) (bytesIn (child 70 own)) (controls own)))
+
+-- by the header's body
+unfoldable pub headFault : List ℕ → List Rec → Finding
+headFault head own = guard (ltb (length head) 22) (ofHeader F.ParagraphHeaderShort) (partsFault (countsOf head) own)
 
 unfoldable pub paragraphFault : View → Finding
-paragraphFault v = guard (ltb (length (v .head)) 22) (ofHeader F.ParagraphHeaderShort) (partsFault (countsOf (v .head)) (v .own))
+paragraphFault v = headFault (v .head) (v .own)
 
 -- the paragraph whose header is the first of some records
 unfoldable pub firstFault : List Rec → Finding

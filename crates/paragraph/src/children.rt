@@ -1,13 +1,15 @@
 // Where a paragraph's children stand in the stream.
-use crate::finding::Which;
 use crate::view::Side;
 use crate::view::stands_to;
 use records::Front;
+use records::Kind;
 use records::first;
 ghost use mathlib.Core.Path.{_≡_};
-ghost use lib.ListN.{drop};
+ghost use Prim.Native.Nat.{_+_};
+ghost use lib.ListN.{take, drop};
 ghost use Rattle.paragraph.specs.Stream.{recordsIn};
-ghost use Rattle.paragraph.specs.Places.{sought, foundIn};
+ghost use Rattle.paragraph.specs.Rules.{bytesIn};
+ghost use Rattle.paragraph.specs.Places.{sought, foundIn, partsIn, bodyFound};
 
 // A record: the place of its header, the header's bytes and the body's.
 pub struct Part {
@@ -69,4 +71,62 @@ pub fn find(s: &[u8], from: usize, n: u32, tag: u32, nth: usize) -> Found
         }
     }
     Found::Nothing
+}
+
+// The four records that a paragraph has at most one of.
+pub struct Parts {
+    pub text: Found,
+    pub shapes: Found,
+    pub layout: Found,
+    pub marks: Found,
+}
+
+pub fn find_parts(s: &[u8], from: usize, n: u32) -> Parts
+    ensures { λ r. ⌜ r ≡ partsIn n from (recordsIn (drop from (now (s .entry)))) ⌝ }
+{
+    let text = find(s, from, n, Kind::TEXT, 0);
+    let shapes = find(s, from, n, Kind::SHAPES, 0);
+    let layout = find(s, from, n, Kind::LAYOUT, 0);
+    let marks = find(s, from, n, Kind::MARKS, 0);
+    Parts {
+        text,
+        shapes,
+        layout,
+        marks,
+    }
+}
+
+// The bytes of a body; an absent record has none.
+pub fn bytes<'a>(s: &'a [u8], f: Found) -> &'a [u8]
+    ensures { λ r. ⌜ now r ≡ bytesIn (bodyFound (now (s .entry)) f) ⌝ }
+{
+    match f {
+        Found::Nothing => &s[0..0],
+        Found::At(p) => {
+            let at = p.at;
+            let lead = p.lead;
+            let length = p.length;
+            clipped(s, at, lead, length)
+        }
+    }
+}
+
+// Of the bytes behind the first `at` and `lead`, those that are among the first `length`.
+fn clipped<'a>(s: &'a [u8], at: usize, lead: usize, length: usize) -> &'a [u8]
+    ensures { λ r. ⌜ now r ≡ take length (drop (at + lead) (now (s .entry))) ⌝ }
+{
+    if s.len() < at {
+        return &s[0..0];
+    }
+    let left = s.len() - at;
+    if left < lead {
+        return &s[0..0];
+    }
+    let start = at + lead;
+    let rest = left - lead;
+    if rest < length {
+        return &s[start..];
+    }
+    let end = start + length;
+    &s[start..end]
 }
