@@ -46,7 +46,7 @@ pub data Ways (n tag : ℕ) (r : Rec) : Type 0 where
   other : sought n tag (r .tag) (r .level) ≡ S.Passed → side n (r .tag) (r .level) ≡ S.Owned → (r .tag ≡ tag → ⊥) → Ways n tag r
   passed : sought n tag (r .tag) (r .level) ≡ S.Passed → side n (r .tag) (r .level) ≡ S.Passed → Ways n tag r
 
-ways : (n tag : ℕ) (r : Rec) → Ways n tag r
+pub ways : (n tag : ℕ) (r : Rec) → Ways n tag r
 ways n tag r = by (side n (r .tag) (r .level)) refl
   where
     own : (b : Bool) → eqb (r .tag) tag ≡ b → side n (r .tag) (r .level) ≡ S.Owned → Ways n tag r

@@ -5,3 +5,4 @@ pub mod EntryLaws
 pub mod BodyLaws
 pub mod FieldLaws
 pub mod RuleLaws
+pub mod JudgeLaws

@@ -6,6 +6,10 @@ use mathlib.Core.List.{List, [], _∷_}
 use lib.Dec.{eqb}
 use lib.ListN.{length, take, drop}
 use Rattle.records.specs.Records.{Rec, leadOf, size}
+use Rattle.text.specs.Units.{units}
+use Rattle.text.specs.Answers.{judged}
+use Rattle.text.specs.declared.Judged.{Judged}
+use Rattle.text.specs.declared.Judged.the-variants as judgement
 use Rattle.paragraph.specs.View.{side}
 use Rattle.paragraph.specs.declared.view.Side.{Side}
 use Rattle.paragraph.specs.declared.view.Side.the-variants as S
@@ -84,12 +88,21 @@ abbrev pub ownedBy : List ℕ → ℕ → ℕ → Owner → Passed
 ownedBy s n at O.Nobody = K.Nobody
 ownedBy s n at (O.Owner code) = passOf s code (foundIn n 71 0 at (recordsIn (drop at s)))
 
+-- what the walk of a text finds: an absent text has no extended controls
+abbrev pub textJudged : Found → List ℕ → Judged
+textJudged (P.At p) b = judged (units b)
+textJudged P.Nothing b = judgement.Sound 0
+
 abbrev pub placeFound : Found → ℕ
 placeFound (P.At p) = p .at
 placeFound P.Nothing = 0
 
--- the place of what a fault names, from the paragraph header on, which is the first of the records
-unfoldable pub placeOf : List Rec → Which → ℕ
+-- the place of the nth child with a tag, from the paragraph header on, which is the first of the records
+unfoldable pub childPlace : List Rec → ℕ → ℕ → ℕ
+childPlace [] tag nth = 0
+childPlace (r ∷ rs) tag nth = placeFound (foundIn (suc (r .level)) tag nth (size r) rs)
+
+-- the place of what a fault names, likewise
+abbrev pub placeOf : List Rec → Which → ℕ
 placeOf rs W.Header = 0
-placeOf [] (W.Child tag nth) = 0
-placeOf (r ∷ rs) (W.Child tag nth) = placeFound (foundIn (suc (r .level)) tag nth (size r) rs)
+placeOf rs (W.Child tag nth) = childPlace rs tag nth

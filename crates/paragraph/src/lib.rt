@@ -24,5 +24,7 @@ pub use fields::owned;
 pub use finding::Counts;
 pub use finding::Finding;
 pub use finding::Which;
+pub use judge::judge_paragraph;
+pub use judge::place_in;
 pub use view::Side;
 pub use view::stands_to;
