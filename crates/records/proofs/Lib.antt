@@ -1,3 +1,6 @@
+pub mod AnswerLaws
 pub mod HeaderLaws
 pub mod ReadingLaws
 pub mod ScanLaws
+pub mod TableLaws
+pub mod Reader

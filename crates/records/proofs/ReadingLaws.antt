@@ -13,7 +13,7 @@ use lib.Seq.{take-at, drop-at, take-add, drop-drop, getD-take, getD-drop}
 use borrow.Author.Tests.{lt-ltb, le-ltb, eq-eqb, ne-eqb}
 use Rattle.numbers.specs.Little.{little, bytesOf, Bytes, span}
 use Rattle.numbers.proofs.LittleLaws.{bytes-drop, little-small, length-bytesOf, little-bytesOf, bytesOf-little, part-rest}
-use Rattle.records.specs.Records.{Rec, headerWord, leadOf, headerOf, encodeOne, encode, size, Obeys, Lawful}
+use Rattle.records.specs.Records.{Rec, headerWord, leadOf, headerOf, encodeOne, encode, size, Obeys, Lawful, Encodes}
 use Rattle.records.specs.Reading.{Stands, whole, fault, guard, bodyAt, longAt, wordAt, standsAt, frontOf, Read, onto, readFrom, readAll}
 use Rattle.records.specs.declared.fault.Fault.{Fault}
 use Rattle.records.specs.declared.header.Header.{Header}
@@ -46,11 +46,11 @@ word-parts w = omega arith
 
 -- ---- lengths
 
-header-short : (tag level n : ℕ) → n < 4095 → headerOf tag level n ≡ bytesOf 4 (headerWord tag level n)
+pub header-short : (tag level n : ℕ) → n < 4095 → headerOf tag level n ≡ bytesOf 4 (headerWord tag level n)
 unfolding headerOf
 header-short tag level n h = simp (lt-ltb n 4095 h)
 
-header-long : (tag level n : ℕ) → 4095 ≤ n → headerOf tag level n ≡ bytesOf 4 (headerWord tag level 4095) ++ bytesOf 4 n
+pub header-long : (tag level n : ℕ) → 4095 ≤ n → headerOf tag level n ≡ bytesOf 4 (headerWord tag level 4095) ++ bytesOf 4 n
 unfolding headerOf
 header-long tag level n h = simp (le-ltb n 4095 h)
 
@@ -295,10 +295,6 @@ read-encode cap (r ∷ rs) l =
 
 -- ---- encoding what was read: n bounds the length
 
-pub record Encodes (cap : ℕ) (s : List ℕ) (rs : List Rec) : Type 0 where
-  pub lawful : Lawful cap rs
-  pub stream : encode rs ≡ s
-
 unstopped : (f : Fault) → some f ≡ none → ⊥
 unstopped f e = let z : _≡_ {A = ℕ} 0 1 = cc in omega arith
 
@@ -346,6 +342,34 @@ encode-read-within (suc n) cap s h bs e =
 
 pub encode-read : (cap : ℕ) (s : List ℕ) → Bytes s → readFrom cap 0 s .stop ≡ none → Encodes cap s (readFrom cap 0 s .recs)
 encode-read cap s bs e = encode-read-within (length s) cap s (omega arith) bs e
+
+-- ---- the records that are read lie within the stream: n bounds its length
+
+prefix-by : (cap : ℕ) (s : List ℕ) (a : Stands) → standsAt cap s ≡ a → Bytes s → 0 < length s
+    → ((r : Rec) → standsAt cap s ≡ whole r → length (encode (readFrom (r .level + 1) 0 (drop (size r) s) .recs)) ≤ length (drop (size r) s))
+    → length (encode (readFrom cap 0 s .recs)) ≤ length s
+unfolding encode onto
+prefix-by cap s (fault f) q bs h rest = rw (read-stop cap s f h q) (omega arith)
+prefix-by cap s (whole r) q bs h rest =
+    let k = found cap s bs r q in
+    let ih = rest r q in
+    rw (read-next cap s r h q)
+    (omega (arith, k .inside, length-drop (size r) s, encode-length r (encode (readFrom (r .level + 1) 0 (drop (size r) s) .recs))))
+
+prefix-within : (n cap : ℕ) (s : List ℕ) → length s ≤ n → Bytes s → length (encode (readFrom cap 0 s .recs)) ≤ length s
+unfolding encode
+prefix-within zero cap s h bs = rw (read-end cap s (omega arith)) (omega arith)
+prefix-within (suc n) cap s h bs =
+    elim (decLe (length s) 0) [
+      | yes g ↦ rw (read-end cap s (omega arith)) (omega arith)
+      | no g ↦
+          let m : 0 < length s = lt-of-not-le g in
+          prefix-by cap s (standsAt cap s) refl bs m
+          (λ r q. prefix-within n (r .level + 1) (drop (size r) s) (omega (arith, length-drop (size r) s, size-least r)) (bytes-drop (size r) s bs))
+    ]
+
+pub read-prefix : (cap : ℕ) (s : List ℕ) → Bytes s → length (encode (readFrom cap 0 s .recs)) ≤ length s
+read-prefix cap s bs = prefix-within (length s) cap s (omega arith) bs
 
 -- ---- a pass over a stream: what is known where a header was read at `at`
 

@@ -10,8 +10,9 @@ use mathlib.Core.List.{List, [], _∷_, _++_}
 use lib.Dec.{ltb, leb, eqb}
 use lib.ListN.{length, take, drop, length-append}
 use borrow.Author.Tests.{leb-true, ltb-false, lt-ltb, le-ltb, le-leb, lt-leb, eq-eqb, ne-eqb}
+use Rattle.numbers.specs.Little.{Bytes}
 use Rattle.records.specs.Records.{Rec, limit, encodeOne, encode, size}
-use Rattle.records.specs.Answers.{refusedAt}
+use Rattle.records.specs.Answers.{refusedAt, place}
 use Rattle.records.specs.Reading.{Read, onto, readFrom, readAll}
 use Rattle.records.specs.Table.{roomFor, stopped, answerOf, readAnswer}
 use Rattle.records.specs.declared.fault.Fault.{Fault}
@@ -19,7 +20,7 @@ use Rattle.records.specs.declared.fault.Fault.the-variants as F
 use Rattle.records.specs.declared.fault.Answer.{Answer}
 use Rattle.records.specs.declared.header.Header.{Header}
 use Rattle.records.specs.declared.fault.Answer.the-variants as A
-use Rattle.records.proofs.ReadingLaws.{length-encodeOne, size-least, Here}
+use Rattle.records.proofs.ReadingLaws.{length-encodeOne, size-least, read-prefix, Here}
 
 pub length-encode : (r : Rec) (rs : List Rec) → length (encode (r ∷ rs)) ≡ size r + length (encode rs)
 unfolding encode
@@ -156,3 +157,40 @@ module _ (s : List ℕ) (room : ℕ) where
   pub accepts : length s ≤ limit → readAll s .stop ≡ none → length (readAll s .recs) ≤ room → readAnswer s room ≡ A.Accepted (length (readAll s .recs))
   unfolding readAnswer answerOf stopped roomFor
   accepts h e k = simp (le-ltb limit (length s) h, e, le-leb (length (readAll s .recs)) room k)
+
+-- ---- every place is within the limit
+
+pub records-bytes : (rs : List Rec) → 4 * length rs ≤ length (encode rs)
+unfolding encode
+records-bytes [] = omega arith
+records-bytes (r ∷ rs) = omega (arith, length-encode r rs, size-least r, records-bytes rs)
+
+pub take-bytes : (n : ℕ) (rs : List Rec) → length (encode (take n rs)) ≤ length (encode rs)
+unfolding encode
+take-bytes zero rs = omega arith
+take-bytes (suc n) [] = omega arith
+take-bytes (suc n) (r ∷ rs) = omega (arith, length-encode r rs, length-encode r (take n rs), take-bytes n rs)
+
+module _ (s : List ℕ) (room : ℕ) (bs : Bytes s) where
+  abbrev Near : Answer → Type 0
+  Near a = place a ≤ limit
+
+  near-room : length s ≤ limit → (b : Bool)
+      → Near (cond b (A.Accepted (length (readAll s .recs))) (refusedAt F.NoRoom (length (encode (take room (readAll s .recs))))))
+  unfolding readAll
+  near-room h true = omega (arith, records-bytes (readFrom 0 0 s .recs), read-prefix 0 s bs)
+  near-room h false = omega (arith, take-bytes room (readFrom 0 0 s .recs), read-prefix 0 s bs)
+
+  near-stop : length s ≤ limit → (o : Option Fault) → Near (stopped o (length (encode (readAll s .recs))) (roomFor room (readAll s .recs)))
+  unfolding stopped roomFor readAll
+  near-stop h none = near-room h (leb (length (readAll s .recs)) room)
+  near-stop h (some f) = omega (arith, read-prefix 0 s bs)
+
+  near-limit : (b : Bool) → ltb limit (length s) ≡ b → Near (cond b (refusedAt F.StreamTooLong 0) (answerOf room (readAll s)))
+  unfolding answerOf
+  near-limit true q = omega arith
+  near-limit false q = near-stop (ltb-false _ _ q) (readAll s .stop)
+
+  pub answer-near : place (readAnswer s room) ≤ limit
+  unfolding readAnswer
+  answer-near = near-limit (ltb limit (length s)) refl

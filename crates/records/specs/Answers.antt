@@ -1,5 +1,5 @@
 -- The numbers the host sees (document 01, the table of numbers): one name for each, and its number.
-use Prim.Native.Nat.{ℕ}
+use Prim.Native.Nat.{ℕ, _+_, _*_, min}
 use Rattle.records.specs.declared.fault.Fault.{Fault}
 use Rattle.records.specs.declared.fault.Fault.the-variants as F
 use Rattle.records.specs.declared.fault.Answer.{Answer}
@@ -47,3 +47,11 @@ number (A.Refused r) = numberOf (r .fault)
 abbrev pub place : Answer → ℕ
 place (A.Accepted n) = n
 place (A.Refused r) = r .place .0
+
+-- a place in the host's number has 28 bits; one that needs more is given as the largest
+abbrev pub placeBits : ℕ → ℕ
+placeBits p = min p 268435455
+
+-- the host's 64 bits: the number, plus 256 times the place, plus 2 to the power 36 times the further number (document 01, 'What the part does')
+unfoldable pub hostForm : ℕ → ℕ → ℕ → ℕ
+hostForm n p further = n + 256 * placeBits p + 68719476736 * placeBits further

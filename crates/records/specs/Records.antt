@@ -1,5 +1,6 @@
 -- Records, and the stream that a list of records is (document 01, 'Records').
 use Prim.Native.Nat.{ℕ, _+_, _*_, _≤_, _<_}
+use mathlib.Core.Path.{_≡_}
 use mathlib.Core.Bool.{cond}
 use mathlib.Core.List.{List, [], _∷_, _++_}
 use lib.Dec.{ltb}
@@ -53,3 +54,8 @@ pub record Obeys (cap : ℕ) (r : Rec) : Type 0 where
 abbrev pub Lawful : ℕ → List Rec → Type 0
 Lawful cap [] = Unit {0}
 Lawful cap (r ∷ rs) = Obeys cap r × Lawful (r .level + 1) rs
+
+-- a stream is the encoding of a lawful list of records, the first of which has at most the level cap (0 for a whole stream)
+pub record Encodes (cap : ℕ) (s : List ℕ) (rs : List Rec) : Type 0 where
+  pub lawful : Lawful cap rs
+  pub stream : encode rs ≡ s

@@ -1,6 +1,7 @@
 // The refusals of document 01, each named once, and what a call answers.
 ghost use mathlib.Core.Path.{_≡_};
-ghost use Rattle.records.specs.Answers.{numberOf, refusedAt};
+ghost use Prim.Native.Nat.{_<_};
+ghost use Rattle.records.specs.Answers.{numberOf, refusedAt, placeBits, hostForm, number, place};
 
 // A byte place in a stream, never added to a character position.
 pub struct Offset(pub usize);
@@ -50,7 +51,7 @@ pub enum Answer {
 impl Fault {
     // Document 01's number.
     pub fn number(self) -> u64
-        ensures { λ r. ⌜ r ≡ numberOf self ⌝ }
+        ensures { λ r. ⌜ (r ≡ numberOf self) × (r < 256) ⌝ }
     {
         match self {
             Fault::StreamTooLong => 1,
@@ -91,4 +92,31 @@ pub fn refused(fault: Fault, place: usize) -> Answer
         fault,
         place: Offset(place),
     })
+}
+
+// The lowest 28 bits are what a place has in the host's number; no place of ours needs more.
+fn bits(place: usize) -> u64
+    ensures { λ r. ⌜ (r ≡ placeBits place) × (r < 268435456) ⌝ }
+{
+    if 268435455 < place {
+        268435455
+    } else {
+        place as u64
+    }
+}
+
+impl Answer {
+    // The host's form: the number, plus 256 times the place or what stands in its column for 0.
+    pub fn host(self) -> u64
+        ensures { λ r. ⌜ r ≡ hostForm (number self) (place self) 0 ⌝ }
+    {
+        match self {
+            Answer::Accepted(n) => 256 * bits(n),
+            Answer::Refused(r) => {
+                let fault = r.fault;
+                let place = r.place;
+                fault.number() + 256 * bits(place.0)
+            }
+        }
+    }
 }

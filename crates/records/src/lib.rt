@@ -2,7 +2,7 @@
 mod fault;
 mod header;
 mod kind;
-mod read;
+mod table;
 
 pub use fault::Answer;
 pub use fault::Fault;
@@ -13,4 +13,5 @@ pub use header::Front;
 pub use header::Header;
 pub use header::first;
 pub use kind::Kind;
-pub use read::scan;
+pub use table::read;
+pub use table::scan;

@@ -4,3 +4,5 @@ pub mod TableLaws
 pub mod WalkLaws
 pub mod StepLaws
 pub mod JudgeLaws
+pub mod SoundLaws
+pub mod PartLaws

@@ -7,7 +7,7 @@ use mathlib.Core.List.{List}
 use lib.Dec.{eqb}
 use lib.ListN.{length, getD, drop-of-length-le}
 use borrow.Author.Tests.{lt-ltb, le-ltb, eq-eqb, ne-eqb}
-use Rattle.text.specs.Walk.{what, width, stands, broken, token, front}
+use Rattle.text.specs.Walk.{what, width, stands, broken, frontOf, front}
 use Rattle.text.specs.Answers.{place, cursor, stepOf, stepAt}
 use Rattle.text.specs.declared.Standing.{Standing}
 use Rattle.text.specs.declared.Step.the-variants.{Stands, Broken, End}
@@ -26,21 +26,25 @@ pub record Seen (us : List ℕ) (p u n left : ℕ) (s : Standing) : Type 0 where
   pub takes : n ≡ width s
 
 module _ {us : List ℕ} {p u n left : ℕ} {s : Standing} (seen : Seen us p u n left s) where
-  at-token : stepAt us p ≡ stepOf p (token u n left (getD us (p + (n - 1)) 0))
+  at-front : stepAt us p ≡ stepOf p (frontOf u n left (getD us (p + (n - 1)) 0))
   unfolding stepAt
-  at-token = rw (seen .takes, seen .begins, seen .rest, seen .is) (ap (stepOf p) (front-at us p (seen .within)))
+  at-front = rw (seen .takes, seen .begins, seen .rest, seen .is) (ap (stepOf p) (front-at us p (seen .within)))
 
   pub at-zero : u ≡ 0 → Broken (place p) ≡ stepAt us p
-  unfolding token
-  at-zero e = let z : p + 0 ≡ p = omega arith in rw (at-token, eq-eqb u 0 e, z)
+  unfolding frontOf
+  at-zero e = let z : p + 0 ≡ p = omega arith in rw (at-front, eq-eqb u 0 e, z)
 
   pub at-cut : (u ≡ 0 → ⊥) → left < n → Broken (place p) ≡ stepAt us p
-  unfolding token
-  at-cut k e = let z : p + 0 ≡ p = omega arith in rw (at-token, ne-eqb u 0 k, lt-ltb left n e, z)
+  unfolding frontOf
+  at-cut k e = let z : p + 0 ≡ p = omega arith in rw (at-front, ne-eqb u 0 k, lt-ltb left n e, z)
 
   pub at-unclosed : (u ≡ 0 → ⊥) → n ≤ left → (getD us (p + (n - 1)) 0 ≡ u → ⊥) → Broken (place (p + (n - 1))) ≡ stepAt us p
-  unfolding token
-  at-unclosed k w e = rw (at-token, ne-eqb u 0 k, le-ltb left n w, ne-eqb (getD us (p + (n - 1)) 0) u e)
+  unfolding frontOf
+  at-unclosed k w e = rw (at-front, ne-eqb u 0 k, le-ltb left n w, ne-eqb (getD us (p + (n - 1)) 0) u e)
+
+  -- what takes one position closes itself
+  pub closes-itself : n ≡ 1 → getD us (p + (n - 1)) 0 ≡ u
+  closes-itself e = let z : p + (n - 1) ≡ p = omega arith in rw z (sym (seen .is))
 
 -- besides, it is no unit 0, and is whole and closed by its own code
 pub record Closed (us : List ℕ) (p u n left : ℕ) (s : Standing) : Type 0 where
@@ -51,9 +55,9 @@ pub record Closed (us : List ℕ) (p u n left : ℕ) (s : Standing) : Type 0 whe
 
 module _ {us : List ℕ} {p u n left : ℕ} {s : Standing} (c : Closed us p u n left s) where
   at-ending : stepAt us p ≡ stepOf p (cond (eqb left n) (cond (eqb u 13) (stands (what u)) (broken n)) (cond (eqb u 13) (broken 0) (stands (what u))))
-  unfolding token
+  unfolding frontOf
   at-ending =
-      rw (at-token (c .seen), ne-eqb u 0 (c .known), le-ltb left n (c .whole), eq-eqb (getD us (p + (n - 1)) 0) u (c .closes))
+      rw (at-front (c .seen), ne-eqb u 0 (c .known), le-ltb left n (c .whole), eq-eqb (getD us (p + (n - 1)) 0) u (c .closes))
 
   pub at-lacking : left ≡ n → (u ≡ 13 → ⊥) → Broken (place (p + n)) ≡ stepAt us p
   at-lacking l t = rw (at-ending, eq-eqb left n l, ne-eqb u 13 t)

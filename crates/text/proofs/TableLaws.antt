@@ -25,6 +25,47 @@ getD-made f d i zero k h = absurd (omega arith)
 getD-made f d i (suc n) zero h = let e : i + 0 ≡ i = omega arith in ap f (sym e)
 getD-made f d i (suc n) (suc k) h = let e : suc i + k ≡ i + suc k = omega arith in getD-made f d (suc i) n k (omega arith) ∙ ap f e
 
+-- ---- the code's table, by its letters
+
+unfoldable pub letter : Class → ℕ
+letter Character = 67
+letter Inline = 73
+letter Extended = 88
+
+unfoldable pub letters : List ℕ
+letters = made (λ u. letter (classOf u)) 0 32
+
+letter-at : (u : ℕ) → u < 32 → getD letters u 0 ≡ letter (classOf u)
+unfolding letters
+letter-at u h = let e : 0 + u ≡ u = omega arith in getD-made (λ u. letter (classOf u)) 0 0 32 u h ∙ ap (λ n. letter (classOf n)) e
+
+pub letter-extended : (u : ℕ) → u < 32 → getD letters u 0 ≡ 88 → Extended ≡ classOf u
+unfolding letter
+letter-extended u h e = go (classOf u) (sym (letter-at u h) ∙ e)
+  where
+    go : (c : Class) → letter c ≡ 88 → Extended ≡ c
+    go Character e = absurd (omega arith)
+    go Inline e = absurd (omega arith)
+    go Extended e = refl
+
+pub letter-inline : (u : ℕ) → u < 32 → getD letters u 0 ≡ 73 → Inline ≡ classOf u
+unfolding letter
+letter-inline u h e = go (classOf u) (sym (letter-at u h) ∙ e)
+  where
+    go : (c : Class) → letter c ≡ 73 → Inline ≡ c
+    go Character e = absurd (omega arith)
+    go Inline e = refl
+    go Extended e = absurd (omega arith)
+
+pub letter-other : (u : ℕ) → u < 32 → (getD letters u 0 ≡ 88 → ⊥) → (getD letters u 0 ≡ 73 → ⊥) → Character ≡ classOf u
+unfolding letter
+letter-other u h x i = go (classOf u) (letter-at u h)
+  where
+    go : (c : Class) → getD letters u 0 ≡ letter c → Character ≡ c
+    go Character e = refl
+    go Inline e = absurd (i e)
+    go Extended e = absurd (x e)
+
 -- ---- what a unit begins
 
 pub what-control : (u : ℕ) → u < 32 → what u ≡ Control (control u)
@@ -34,12 +75,6 @@ what-control u h = simp (lt-ltb u 32 h)
 pub what-ordinary : (u : ℕ) → 32 ≤ u → what u ≡ Ordinary u
 unfolding what
 what-ordinary u h = simp (le-ltb u 32 h)
-
--- the code's table holds the document's classes
-pub table-control : (u : ℕ) → u < 32 → Control (record { class = getD (made classOf 0 32) u Character; code = u }) ≡ what u
-table-control u h =
-    let e : 0 + u ≡ u = omega arith in
-    ap (λ (c : Class). Control (record { class = c; code = u })) (getD-made classOf Character 0 32 u h ∙ ap classOf e) ∙ sym (what-control u h)
 
 classWidth-or : (c : Class) → (classWidth c ≡ 1) ⊎ (classWidth c ≡ 8)
 classWidth-or Character = inl refl

@@ -3,9 +3,9 @@ use Prim.Native.Nat.{ℕ, zero, suc, _+_, _*_, _/_, _-_, _≤_, _<_}
 use native.Mathlib.Omega.{arith}
 use mathlib.Core.Path.{_≡_, refl, ap, _∙_, sym}
 use mathlib.Core.List.{List, [], _∷_}
-use lib.ListN.{length, getD, take, drop, length-drop}
-use lib.Seq.{take-all}
+use lib.ListN.{length, getD, take, drop}
 use Rattle.numbers.specs.Little.{little}
+use Rattle.numbers.proofs.LittleLaws.{part-rest}
 use Rattle.text.specs.Units.{units}
 
 pub length-units : (s : List ℕ) → length (units s) ≡ length s / 2
@@ -24,6 +24,4 @@ unit-at (a ∷ b ∷ s) (suc p) h = let e : 2 * suc p ≡ suc (suc (2 * p)) = om
 
 -- the same of the part of the bytes that begins with it
 pub unit-part : (s : List ℕ) (p : ℕ) → p < length s / 2 → little 2 (take (length s - 2 * p) (drop (2 * p) s)) ≡ getD (units s) p 0
-unit-part s p h =
-    let l : length (drop (2 * p) s) ≤ length s - 2 * p = simp length-drop (omega arith) in
-    rw (take-all (length s - 2 * p) (drop (2 * p) s) l) (sym (unit-at s p h))
+unit-part s p h = rw (part-rest s (2 * p)) (sym (unit-at s p h))

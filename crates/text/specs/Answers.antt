@@ -34,3 +34,13 @@ verdict (some p) n = judgement.Broken (place p)
 
 unfoldable pub judged : List ℕ → Judged
 judged us = verdict (textFault us) (extendedCount us)
+
+-- document 01's number of a judgement (0 accepted, 12 text rule broken), and what stands beside it: the extended controls, or the
+-- position at fault
+abbrev pub number : Judged → ℕ
+number (judgement.Sound n) = 0
+number (judgement.Broken p) = 12
+
+abbrev pub beside : Judged → ℕ
+beside (judgement.Sound n) = n
+beside (judgement.Broken p) = p .0

@@ -1,3 +1,5 @@
 pub mod Units
 pub mod Walk
 pub mod Answers
+pub mod Pairs
+pub mod Promise

@@ -1,9 +1,9 @@
 -- The walk over a text's units (document 01, 'Text units').
-use Prim.Native.Nat.{ℕ, zero, suc, _+_, _-_}
+use Prim.Native.Nat.{ℕ, zero, suc, _+_, _-_, _≤_}
 use mathlib.Core.Path.{_≡_}
 use mathlib.Core.Bool.{Bool, true, false, cond, _||_, not}
 use mathlib.Core.Option.{Option, none, some}
-use mathlib.Core.List.{List, [], _∷_}
+use mathlib.Core.List.{List, [], _∷_, _++_}
 use lib.Dec.{ltb, eqb}
 use lib.ListN.{length, getD, drop}
 use Rattle.text.specs.declared.Class.{Class}
@@ -51,8 +51,8 @@ pub data Front : Type 0 where
 
 -- a unit u that takes n positions, with `left` units from it on, the nth of which is `last`: unit 0 is refused, a control is whole
 -- and ends with its own code, and 13 stands at the end and only there
-unfoldable pub token : ℕ → ℕ → ℕ → ℕ → Front
-token u n left last =
+unfoldable pub frontOf : ℕ → ℕ → ℕ → ℕ → Front
+frontOf u n left last =
     cond (eqb u 0) (broken 0)
     (cond (ltb left n) (broken 0)
     (cond (not (eqb last u)) (broken (n - 1))
@@ -62,7 +62,7 @@ token u n left last =
 
 unfoldable pub front : List ℕ → Front
 front [] = over
-front (u ∷ us) = token u (width (what u)) (suc (length us)) (getD (u ∷ us) (width (what u) - 1) 0)
+front (u ∷ us) = frontOf u (width (what u)) (suc (length us)) (getD (u ∷ us) (width (what u) - 1) 0)
 
 -- ---- the whole text
 
@@ -83,6 +83,11 @@ tokens us = walk 0 0 us
 -- those from a position on where a token begins
 abbrev pub tokensAt : List ℕ → ℕ → List Token
 tokensAt us p = walk p 0 (drop p us)
+
+-- units from 32 up, as a value holds them
+abbrev pub AllOrdinary : List ℕ → Type 0
+AllOrdinary [] = Unit {0}
+AllOrdinary (u ∷ us) = (32 ≤ u) × AllOrdinary us
 
 abbrev pub isExtended : Standing → ℕ
 isExtended (Ordinary u) = 0
@@ -116,9 +121,10 @@ unfoldable pub textFault : List ℕ → Option ℕ
 textFault [] = some 0
 textFault (u ∷ us) = fault 0 0 (u ∷ us)
 
--- ---- what acceptance means, by no order of tests: a text is a run of ordinary units and controls, then a 13
+-- ---- what acceptance means, with no order of tests: ordinary units and controls, then a 13
 
+-- the six units between a control's two codes may hold anything
 pub data Sound : List ℕ → Type 0 where
   ending : Sound (13 ∷ [])
   single : {u : ℕ} {us : List ℕ} → width (what u) ≡ 1 → (u ≡ 0 → ⊥) → (u ≡ 13 → ⊥) → Sound us → Sound (u ∷ us)
-  eight : {u a b c d e f : ℕ} {us : List ℕ} → width (what u) ≡ 8 → Sound us → Sound (u ∷ a ∷ b ∷ c ∷ d ∷ e ∷ f ∷ u ∷ us)
+  eight : {u : ℕ} {us : List ℕ} (six : List ℕ) → width (what u) ≡ 8 → length six ≡ 6 → Sound us → Sound (u ∷ (six ++ (u ∷ us)))

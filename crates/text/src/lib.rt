@@ -3,7 +3,7 @@ ghost use mathlib.Core.Path.{_≡_};
 ghost use Prim.Native.Nat.{_+_, _*_, _≤_, _<_};
 ghost use lib.ListN.{getD};
 ghost use Rattle.text.specs.Units.{units};
-ghost use Rattle.text.specs.Walk.{what, width, isExtended};
+ghost use Rattle.text.specs.Walk.{classOf, what, width, isExtended};
 ghost use Rattle.text.specs.Answers.{stepAt, cursor, judged};
 
 // A position of the text, in units; it is never added to a byte offset.
@@ -60,41 +60,18 @@ fn unit(text: &[u8], p: usize) -> u32
     }
 }
 
-// Table 6, by the code; unit 0 is refused before its class is asked.
-const TABLE_6: [Class; 32] = [
-    Class::Character,
-    Class::Extended,
-    Class::Extended,
-    Class::Extended,
-    Class::Inline,
-    Class::Inline,
-    Class::Inline,
-    Class::Inline,
-    Class::Inline,
-    Class::Inline,
-    Class::Character,
-    Class::Extended,
-    Class::Extended,
-    Class::Character,
-    Class::Extended,
-    Class::Extended,
-    Class::Extended,
-    Class::Extended,
-    Class::Extended,
-    Class::Inline,
-    Class::Inline,
-    Class::Extended,
-    Class::Extended,
-    Class::Extended,
-    Class::Character,
-    Class::Character,
-    Class::Character,
-    Class::Character,
-    Class::Character,
-    Class::Character,
-    Class::Character,
-    Class::Character,
-];
+// Table 6.
+fn class_of(code: usize) -> Class
+    requires { ⌜ code < 32 ⌝ }
+    ensures { λ r. ⌜ r ≡ classOf code ⌝ }
+{
+    let table = b"CXXXIIIIIICXXCXXXXXIIXXXCCCCCCCC";
+    match table[code] {
+        b'X' => Class::Extended,
+        b'I' => Class::Inline,
+        _ => Class::Character,
+    }
+}
 
 // What a unit begins.
 fn begun(u: u32) -> Standing
@@ -103,9 +80,10 @@ fn begun(u: u32) -> Standing
     if 32 <= u {
         return Standing::Ordinary(u);
     }
-    let i = u as usize;
-    let class = TABLE_6[i];
-    Standing::Control(Control { class, code: u })
+    Standing::Control(Control {
+        class: class_of(u as usize),
+        code: u,
+    })
 }
 
 // How many positions it takes.
@@ -151,13 +129,16 @@ impl Cursor {
         if left < n {
             return Step::Broken(at);
         }
-        let last = p + (n - 1);
-        if unit(text, last) != u {
-            return Step::Broken(Position(last));
+        let behind = p + n;
+        if 1 < n {
+            let last = p + (n - 1);
+            if unit(text, last) != u {
+                return Step::Broken(Position(last));
+            }
         }
         if left == n {
             if u != 13 {
-                return Step::Broken(Position(p + n));
+                return Step::Broken(Position(behind));
             }
         } else {
             if u == 13 {
@@ -168,7 +149,7 @@ impl Cursor {
             at,
             what,
             next: Cursor {
-                at: Position(p + n),
+                at: Position(behind),
             },
         }
     }

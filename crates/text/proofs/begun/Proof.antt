@@ -1,21 +1,20 @@
-use mathlib.Core.Path.{sym}
-use Rattle.text.specs.Walk.{among, classOf}
-use Rattle.text.proofs.TableLaws.{made, what-ordinary, table-control}
+use mathlib.Core.Path.{_∙_, ap, sym}
+use Rattle.text.proofs.TableLaws.{what-ordinary, what-control}
 use borrow.Author.Needs.{needs}
 use Rattle.text.proofs.begun.Statement.{statement}
 use Rattle.text.proofs.begun.Tie as tie
 use Rattle.text.proofs.begun.Reads as reads
 use Rattle.text.proofs.begun.Lts as lts
+use Rattle.text.proofs.class_of.Reads as class-of-reads
 
 returns : tie.Need-returns
 returns c = sym (what-ordinary _ (c .if1 .taken))
 
-array-copy-out-class : tie.Need-array-copy-out-class
-array-copy-out-class c = search needs
+class-of-requires : tie.Need-class-of-requires
+class-of-requires c κs = search needs
 
 returns-2 : tie.Need-returns-2
-unfolding made classOf among
-returns-2 c = table-control (c .before .before .args .u) (c .before .if1 .left)
+returns-2 c = rw (c .class-of .ensures) (sym (what-control _ (c .before .if1 .left)))
 
 pub begun-spec : {M : Type 1} → statement M
-begun-spec = tie.close (tie.spec returns array-copy-out-class returns-2)
+begun-spec = tie.close (tie.spec returns class-of-requires returns-2)

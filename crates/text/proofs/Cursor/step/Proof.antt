@@ -1,11 +1,11 @@
 use mathlib.Core.Path.{_∙_, sym}
 use mathlib.Core.Logic.{⊎-elim}
 use Prim.Native.Nat.{_/_, _-_}
+use native.Mathlib.Omega.{arith}
 use lib.ListN.{length}
 use Rattle.text.specs.Units.{units}
-use Rattle.text.specs.Walk.{width}
 use Rattle.text.proofs.UnitLaws.{length-units}
-use Rattle.text.proofs.StepLaws.{at-end, Seen, at-zero, at-cut, at-unclosed, Closed, at-lacking, at-early, at-last, at-stands}
+use Rattle.text.proofs.StepLaws.{at-end, Seen, at-zero, at-cut, at-unclosed, closes-itself, Closed, at-lacking, at-early, at-last, at-stands}
 use borrow.Author.Needs.{needs}
 use Rattle.text.proofs.Cursor.step.Statement.{statement}
 use Rattle.text.proofs.Cursor.step.Tie as tie
@@ -36,22 +36,26 @@ seen c = record {
 }
 
 -- and once its closing code is
-abbrev at-start : tie.Else4 → tie.After-positions
-at-start c = c .before .before .before .before
+abbrev read : tie.Joined4 → tie.After-positions
+read c = c .before .before .before
 
-closed : (c : tie.Else4)
+closed : (c : tie.Joined4)
     → Closed
-    (units (start (at-start c) .args .text .now))
-    (start (at-start c) .args .self .at .0)
-    (at-start c .before .before .unit .result)
-    (at-start c .positions .result)
-    (length (start (at-start c) .args .text .now) / 2 - start (at-start c) .args .self .at .0)
-    (at-start c .before .begun .result)
+    (units (start (read c) .args .text .now))
+    (start (read c) .args .self .at .0)
+    (read c .before .before .unit .result)
+    (read c .positions .result)
+    (length (start (read c) .args .text .now) / 2 - start (read c) .args .self .at .0)
+    (read c .before .begun .result)
 closed c = record {
-  seen = seen (at-start c);
-  known = c .before .before .before .if2 .left;
-  whole = c .before .before .if3 .left;
-  closes = sym (c .before .unit2 .ensures) ∙ c .if4 .left;
+  seen = seen (read c);
+  known = c .before .before .if2 .left;
+  whole = c .before .if3 .left;
+  closes =
+      ⊎-elim
+      (λ w. sym (w .1 .ensures) ∙ w .2 .left)
+      (λ w. closes-itself (seen (read c)) (omega arith))
+      (c .if4 .came);
 }
 
 returns : tie.Need-returns
@@ -75,6 +79,9 @@ returns-2 c = at-zero (seen (c .before)) (c .if2 .taken)
 returns-3 : tie.Need-returns-3
 returns-3 c = at-cut (seen (c .before .before)) (c .before .if2 .left) (c .if3 .taken)
 
+add-behind : tie.Need-add-behind
+add-behind c = search needs
+
 sub-last : tie.Need-sub-last
 sub-last c = search needs
 
@@ -85,26 +92,19 @@ unit-requires-2 : tie.Need-unit-requires-2
 unit-requires-2 c κs = search needs
 
 returns-4 : tie.Need-returns-4
-returns-4 c = at-unclosed (seen (c .before .before .before .before)) (c .before .before .before .if2 .left) (c .before .before .if3 .left) (λ e. c .if4 .taken (c .before .unit2 .ensures ∙ e))
-
-add-t16 : tie.Need-add-t16
-add-t16 c = search needs
+returns-4 c = at-unclosed (seen (c .before .before .before .before .before)) (c .before .before .before .before .if2 .left) (c .before .before .before .if3 .left) (λ e. c .if5 .taken (c .before .unit2 .ensures ∙ e))
 
 returns-5 : tie.Need-returns-5
-returns-5 c = at-lacking (closed (c .before .before)) (c .before .if5 .taken) (c .if6 .taken)
+returns-5 c = at-lacking (closed (c .before .before)) (c .before .if6 .taken) (c .if7 .taken)
 
 returns-6 : tie.Need-returns-6
-returns-6 c = at-early (closed (c .before .before)) (c .before .if5 .left) (c .if7 .taken)
-
-add-t11 : tie.Need-add-t11
-add-t11 c = search needs
+returns-6 c = at-early (closed (c .before .before)) (c .before .if6 .left) (c .if8 .taken)
 
 returns-7 : tie.Need-returns-7
-returns-7 c =
-    ⊎-elim
-    (λ w. at-last (closed (c .before)) (w .0 .taken) (w .1 .left))
-    (λ w. at-stands (closed (c .before)) (w .0 .left) (w .1 .left))
-    (c .if5 .came)
+returns-7 c = at-last (closed (c .before .before)) (c .before .if6 .taken) (c .if7 .left)
+
+returns-8 : tie.Need-returns-8
+returns-8 c = at-stands (closed (c .before .before)) (c .before .if6 .left) (c .if8 .left)
 
 pub step-spec : {M : Type 1} → statement M
 step-spec =
@@ -117,12 +117,12 @@ step-spec =
     positions-requires
     returns-2
     returns-3
+    add-behind
     sub-last
     add-last
     unit-requires-2
     returns-4
-    add-t16
     returns-5
     returns-6
-    add-t11
-    returns-7)
+    returns-7
+    returns-8)

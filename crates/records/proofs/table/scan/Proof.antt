@@ -14,10 +14,10 @@ use Rattle.numbers.proofs.LittleLaws.{slice-bytes}
 use Rattle.records.specs.Table.{readAnswer}
 use Rattle.records.proofs.ReadingLaws.{Here, here, stops-here, ends-here}
 use Rattle.records.proofs.ScanLaws.{Scanning, answerFrom, answer-too-long, answer-start, scan-next, answer-stop, answer-fits, answer-over}
-use Rattle.records.proofs.read.scan.Statement.{statement}
-use Rattle.records.proofs.read.scan.Tie as tie
-use Rattle.records.proofs.read.scan.Reads as reads
-use Rattle.records.proofs.read.scan.Lts as lts
+use Rattle.records.proofs.table.scan.Statement.{statement}
+use Rattle.records.proofs.table.scan.Tie as tie
+use Rattle.records.proofs.table.scan.Reads as reads
+use Rattle.records.proofs.table.scan.Lts as lts
 use Rattle.records.proofs.fault.refused.Reads as refused-reads
 use Rattle.records.proofs.header.first.Reads as first-reads
 

@@ -1,0 +1,7 @@
+pub mod PutLaws
+pub mod RowLaws
+pub mod JudgeLaws
+pub mod LayLaws
+pub mod PackLaws
+pub mod RoundLaws
+pub mod RoundTrip

@@ -1,0 +1,104 @@
+// Read, records only.
+use crate::fault::Answer;
+use crate::fault::Fault;
+use crate::fault::refused;
+use crate::header::Front;
+use crate::header::first;
+ghost use mathlib.Core.Path.{_≡_};
+ghost use Prim.Native.Nat.{_≤_, min};
+ghost use lib.ListN.{length};
+ghost use Rattle.records.specs.Records.{limit};
+ghost use Rattle.records.specs.Reading.{readAll};
+ghost use Rattle.records.specs.Table.{readAnswer, entered, Table, shortest};
+
+// The first pass: how many records the stream has, or what is wrong with it; where they are more than `room`, the first
+// that does not fit.
+pub fn scan(s: &[u8], room: usize) -> Answer
+    ensures { λ r. ⌜ r ≡ readAnswer (now (s .entry)) room ⌝ }
+{
+    if 16777216 < s.len() {
+        return refused(Fault::StreamTooLong, 0);
+    }
+    let mut at: usize = 0;
+    let mut cap: u32 = 0;
+    let mut n: usize = 0;
+    let mut over: usize = 0;
+    while at < s.len() {
+        match first(&s[at..], cap) {
+            Front::Record(h) => {
+                if n == room {
+                    over = at;
+                }
+                at = at + h.lead + h.length;
+                cap = h.level + 1;
+                n = n + 1;
+            }
+            Front::Refused(f) => {
+                return refused(f, at);
+            }
+        }
+    }
+    if n <= room {
+        Answer::Accepted(n)
+    } else {
+        refused(Fault::NoRoom, over)
+    }
+}
+
+fn lesser(a: usize, b: usize) -> usize
+    ensures { λ r. ⌜ r ≡ min a b ⌝ }
+{
+    if a < b { a } else { b }
+}
+
+// The second pass: the table of a stream whose records all have room.
+fn enter(s: &[u8], tags: &mut [u32], levels: &mut [u32], places: &mut [u32], lengths: &mut [u32])
+    requires { ⌜ (length (now s) ≤ limit) × (length (readAll (now s) .recs) ≤ shortest (now tags) (now levels) (now places) (now lengths)) ⌝ }
+    ensures { λ _. ⌜ Table (readAll (now (s .entry)) .recs) (now (tags .entry)) (now (tags .exit)) (now (levels .entry)) (now (levels .exit)) (now (places .entry)) (now (places .exit)) (now (lengths .entry)) (now (lengths .exit)) ⌝ }
+{
+    let mut at: usize = 0;
+    let mut cap: u32 = 0;
+    let mut i: usize = 0;
+    while at < s.len() {
+        match first(&s[at..], cap) {
+            Front::Record(h) => {
+                let body = at + h.lead;
+                tags[i] = h.tag;
+                levels[i] = h.level;
+                places[i] = body as u32;
+                lengths[i] = h.length as u32;
+                at = body + h.length;
+                cap = h.level + 1;
+                i = i + 1;
+            }
+            Front::Refused(_) => {
+                return;
+            }
+        }
+    }
+}
+
+// Reads a stream's records into four lists: tag, level, body place and body length. A refusal changes no entry; entries past the
+// records stay.
+pub fn read(
+    s: &[u8],
+    tags: &mut [u32],
+    levels: &mut [u32],
+    places: &mut [u32],
+    lengths: &mut [u32],
+) -> Answer
+    ensures answer { λ r. ⌜ r ≡ readAnswer (now (s .entry)) (shortest (now (tags .entry)) (now (levels .entry)) (now (places .entry)) (now (lengths .entry))) ⌝ }
+    ensures table { λ r. ⌜ Table (entered r (readAll (now (s .entry)) .recs)) (now (tags .entry)) (now (tags .exit)) (now (levels .entry)) (now (levels .exit)) (now (places .entry)) (now (places .exit)) (now (lengths .entry)) (now (lengths .exit)) ⌝ }
+{
+    let room = lesser(
+        lesser(tags.len(), levels.len()),
+        lesser(places.len(), lengths.len()),
+    );
+    match scan(s, room) {
+        Answer::Accepted(n) => {
+            enter(s, tags, levels, places, lengths);
+            Answer::Accepted(n)
+        }
+        Answer::Refused(r) => Answer::Refused(r),
+    }
+}

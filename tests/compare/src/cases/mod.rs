@@ -1,0 +1,9 @@
+//! The cases of each service: lawful and damaged inputs, short and long.
+
+pub mod damage;
+pub mod docinfo;
+pub mod fills;
+pub mod packing;
+pub mod paragraphs;
+pub mod records;
+pub mod sections;

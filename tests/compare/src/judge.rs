@@ -1,0 +1,299 @@
+//! One case: the subject's answer and every lent entry and byte against the oracle's.
+
+use crate::lend::{Lent, Pattern};
+use crate::subject::{answer_of_rows, rows_of, write_rows, Kind, Subject};
+use oracle::answer::{answer_of, answer_of_part};
+use oracle::{check, field_text, fill, pack};
+
+/// One fill: id and value, two bytes for each unit.
+#[derive(Clone, Debug)]
+pub struct Filling {
+    pub id: u32,
+    pub value: Vec<u8>,
+}
+
+/// One call, or two fills in both orders.
+#[derive(Clone, Debug)]
+pub enum Case {
+    Read {
+        kind: Kind,
+        stream: Vec<u8>,
+        rooms: [usize; 4],
+    },
+    Pack {
+        count: u64,
+        lists: [Vec<u32>; 4],
+        bytes: Vec<u8>,
+        out: usize,
+    },
+    Check {
+        section: Vec<u8>,
+    },
+    FieldText {
+        section: Vec<u8>,
+        id: u32,
+    },
+    Fill {
+        section: Vec<u8>,
+        filling: Filling,
+        sheet: usize,
+    },
+    TwoFills {
+        section: Vec<u8>,
+        fillings: [Filling; 2],
+        sheet: usize,
+    },
+}
+
+/// What a case showed: the oracle's number, the tag at its place where that is a record, and all differences.
+#[derive(Debug, Default)]
+pub struct Outcome {
+    pub number: u8,
+    pub tag: Option<u32>,
+    pub differences: Vec<String>,
+}
+
+pub fn number_of(answer: u64) -> u8 {
+    (answer & 255) as u8
+}
+
+pub fn place_of(answer: u64) -> usize {
+    (answer >> 8 & ((1 << 28) - 1)) as usize
+}
+
+fn spell(answer: u64) -> String {
+    let (number, place) = (number_of(answer), place_of(answer));
+    format!("{number} at {place} further {}", answer >> 36)
+}
+
+fn same_answer(found: u64, asked: u64, differences: &mut Vec<String>) {
+    if found != asked {
+        let (found, asked) = (spell(found), spell(asked));
+        differences.push(format!("answer {found}, expected {asked}"));
+    }
+}
+
+fn same<T: Pattern>(name: &str, found: &Lent<T>, asked: &Lent<T>, differences: &mut Vec<String>) {
+    if let Some(index) = found.first_difference(asked) {
+        differences.push(format!("{name} differ first at {index}"));
+    }
+}
+
+/// The tag of the header at the place of a refusal, for numbers that name records of several tags.
+fn tag_at(stream: &[u8], answer: u64) -> Option<u32> {
+    let place = place_of(answer);
+    let header = stream.get(place..place + 4)?;
+    let absent = number_of(answer) == 16 && place == 0;
+    let several = matches!(number_of(answer), 9 | 11 | 13 | 16 | 17);
+    let tag = (u32::from(header[0]) | u32::from(header[1]) << 8) & 1023;
+    (several && !absent).then_some(tag)
+}
+
+const LIST_NAMES: [&str; 4] = ["tags", "levels", "places", "lengths"];
+
+fn judge_read(
+    kind: Kind,
+    stream: &[u8],
+    rooms: [usize; 4],
+    shift: usize,
+    subject: &dyn Subject,
+) -> Outcome {
+    let result = rows_of(kind, stream, rooms.into_iter().min().unwrap_or(0));
+    let asked = answer_of_rows(&result);
+    let given = Lent::given(stream, shift);
+    let mut lists = rooms.map(|room| Lent::<u32>::room(room, shift));
+    let found = subject.read(kind, given.as_given(), lists.each_mut().map(Lent::as_room));
+
+    let mut differences = Vec::new();
+    same_answer(found, asked, &mut differences);
+    let mut expected = rooms.map(|room| Lent::<u32>::room(room, shift));
+    if let Ok(rows) = &result {
+        write_rows(rows, expected.each_mut().map(Lent::own_mut));
+    }
+    for (name, (list, expected)) in LIST_NAMES.iter().zip(lists.iter().zip(&expected)) {
+        same(name, list, expected, &mut differences);
+    }
+    let untouched = Lent::given(stream, shift);
+    same("stream bytes", &given, &untouched, &mut differences);
+    Outcome {
+        number: number_of(asked),
+        tag: tag_at(stream, asked),
+        differences,
+    }
+}
+
+fn judge_pack(
+    count: u64,
+    lists: &[Vec<u32>; 4],
+    bytes: &[u8],
+    out: usize,
+    shift: usize,
+    subject: &dyn Subject,
+) -> Outcome {
+    let mut expected = Lent::<u8>::room(out, shift);
+    let [tags, levels, places, lengths] = lists;
+    let room = expected.own_mut();
+    let asked = answer_of(pack(count, tags, levels, places, lengths, bytes, room));
+
+    let given = lists.each_ref().map(|list| Lent::given(list, shift));
+    let given_bytes = Lent::given(bytes, shift);
+    let mut written = Lent::<u8>::room(out, shift);
+    let found = subject.pack(
+        count,
+        given.each_ref().map(Lent::as_given),
+        given_bytes.as_given(),
+        written.as_room(),
+    );
+
+    let mut differences = Vec::new();
+    same_answer(found, asked, &mut differences);
+    same("out bytes", &written, &expected, &mut differences);
+    for (name, (list, entries)) in LIST_NAMES.iter().zip(given.iter().zip(lists)) {
+        same(name, list, &Lent::given(entries, shift), &mut differences);
+    }
+    let untouched = Lent::given(bytes, shift);
+    same("lent bytes", &given_bytes, &untouched, &mut differences);
+    Outcome {
+        number: number_of(asked),
+        tag: None,
+        differences,
+    }
+}
+
+/// A call that only reads a section.
+fn judge_question(
+    section: &[u8],
+    asked: u64,
+    shift: usize,
+    call: impl Fn(&Lent<u8>) -> u64,
+) -> Outcome {
+    let given = Lent::given(section, shift);
+    let found = call(&given);
+    let mut differences = Vec::new();
+    same_answer(found, asked, &mut differences);
+    let untouched = Lent::given(section, shift);
+    same("section bytes", &given, &untouched, &mut differences);
+    Outcome {
+        number: number_of(asked),
+        tag: tag_at(section, asked),
+        differences,
+    }
+}
+
+/// One fill; beside the outcome the sheet, or the number of the subject's refusal.
+fn judge_fill(
+    section: &[u8],
+    filling: &Filling,
+    sheet: usize,
+    shift: usize,
+    subject: &dyn Subject,
+) -> (Outcome, Result<Vec<u8>, u8>) {
+    let mut expected = Lent::<u8>::room(sheet, shift);
+    let room = expected.own_mut();
+    let asked = answer_of(fill(section, filling.id, &filling.value, room));
+
+    let given = Lent::given(section, shift);
+    let value = Lent::given(&filling.value, shift);
+    let mut written = Lent::<u8>::room(sheet, shift);
+    let (lent, room) = (given.as_given(), written.as_room());
+    let found = subject.fill(lent, filling.id, value.as_given(), room);
+
+    let mut differences = Vec::new();
+    same_answer(found, asked, &mut differences);
+    same("sheet bytes", &written, &expected, &mut differences);
+    let untouched = Lent::given(section, shift);
+    same("section bytes", &given, &untouched, &mut differences);
+    let untouched = Lent::given(&filling.value, shift);
+    same("value bytes", &value, &untouched, &mut differences);
+    let outcome = Outcome {
+        number: number_of(asked),
+        tag: tag_at(section, asked),
+        differences,
+    };
+    let result = match number_of(found) {
+        0 => Ok(written.own()[..place_of(found).min(sheet)].to_vec()),
+        number => Err(number),
+    };
+    (outcome, result)
+}
+
+/// Two fills of different ids, each accepted alone, in both orders: the same bytes, or the one that fails is
+/// stopped with 25 or 26. The number is that of the first order that is stopped.
+fn judge_two_fills(
+    section: &[u8],
+    fillings: &[Filling; 2],
+    sheet: usize,
+    shift: usize,
+    subject: &dyn Subject,
+) -> Outcome {
+    let mut all = Outcome::default();
+    let mut ends = Vec::new();
+    let mut alone = true;
+    for [one, other] in [[0, 1], [1, 0]] {
+        let (outcome, first) = judge_fill(section, &fillings[one], sheet, shift, subject);
+        all.differences.extend(outcome.differences);
+        let Ok(middle) = first else {
+            alone = false;
+            all.number = outcome.number;
+            continue;
+        };
+        let (outcome, end) = judge_fill(&middle, &fillings[other], sheet, shift, subject);
+        all.differences.extend(outcome.differences);
+        if all.number == 0 {
+            all.number = outcome.number;
+        }
+        ends.push(end);
+    }
+    if alone {
+        let stopped = |end: &Result<Vec<u8>, u8>| matches!(end, Err(25 | 26));
+        let agree = match (&ends[0], &ends[1]) {
+            (Ok(first), Ok(second)) => first == second,
+            (first, second) => {
+                (stopped(first) || first.is_ok()) && (stopped(second) || second.is_ok())
+            }
+        };
+        if !agree {
+            all.differences
+                .push("the two orders of two fills disagree".to_string());
+        }
+    }
+    all
+}
+
+/// Puts a case to the subject.
+pub fn judge(case: &Case, shift: usize, subject: &dyn Subject) -> Outcome {
+    match case {
+        Case::Read {
+            kind,
+            stream,
+            rooms,
+        } => judge_read(*kind, stream, *rooms, shift, subject),
+        Case::Pack {
+            count,
+            lists,
+            bytes,
+            out,
+        } => judge_pack(*count, lists, bytes, *out, shift, subject),
+        Case::Check { section } => {
+            judge_question(section, answer_of(check(section)), shift, |given| {
+                subject.check(given.as_given())
+            })
+        }
+        Case::FieldText { section, id } => {
+            let asked = answer_of_part(field_text(section, *id));
+            judge_question(section, asked, shift, |given| {
+                subject.field_text(given.as_given(), *id)
+            })
+        }
+        Case::Fill {
+            section,
+            filling,
+            sheet,
+        } => judge_fill(section, filling, *sheet, shift, subject).0,
+        Case::TwoFills {
+            section,
+            fillings,
+            sheet,
+        } => judge_two_fills(section, fillings, *sheet, shift, subject),
+    }
+}

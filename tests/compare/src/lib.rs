@@ -1,0 +1,9 @@
+//! Compares the proved library with the oracle, case by case, in every answer, entry and byte.
+
+pub mod cases;
+pub mod judge;
+pub mod lend;
+pub mod random;
+pub mod run;
+pub mod service;
+pub mod subject;

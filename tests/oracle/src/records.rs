@@ -1,0 +1,186 @@
+//! Records: header, tiling, read and pack.
+
+use crate::answer::{demand, refuse, Refusal};
+
+/// The most bytes that a stream has.
+pub const LIMIT: usize = 16_777_216;
+/// The size that says that a 32-bit length follows.
+pub const LONG: u32 = 4095;
+const LOWEST_TAG: u32 = 16;
+const HIGHEST: u32 = 1023;
+
+/// One record: the place is that of its body.
+#[derive(Clone, Copy, Debug, PartialEq, Eq)]
+pub struct Row {
+    pub tag: u32,
+    pub level: u32,
+    pub place: u32,
+    pub length: u32,
+}
+
+impl Row {
+    pub fn header(&self) -> usize {
+        self.place as usize - header_length(self.length)
+    }
+
+    pub fn end(&self) -> usize {
+        self.place as usize + self.length as usize
+    }
+
+    pub fn body<'a>(&self, stream: &'a [u8]) -> &'a [u8] {
+        &stream[self.place as usize..self.end()]
+    }
+}
+
+pub fn word(bytes: &[u8], place: usize) -> u32 {
+    let part = &bytes[place..place + 4];
+    u32::from_le_bytes([part[0], part[1], part[2], part[3]])
+}
+
+pub fn half(bytes: &[u8], place: usize) -> u16 {
+    let part = &bytes[place..place + 2];
+    u16::from_le_bytes([part[0], part[1]])
+}
+
+fn header_length(length: u32) -> usize {
+    if length < LONG {
+        4
+    } else {
+        8
+    }
+}
+
+/// The header of a record in the form that its length asks for.
+pub fn header_of(tag: u32, level: u32, length: u32) -> Vec<u8> {
+    let size = length.min(LONG);
+    let mut header = (tag | level << 10 | size << 20).to_le_bytes().to_vec();
+    if size == LONG {
+        header.extend_from_slice(&length.to_le_bytes());
+    }
+    header
+}
+
+/// The level rule: the first level is 0, each later one at most one above the record before it.
+fn level_rule(before: Option<u32>, level: u32) -> bool {
+    match before {
+        None => level == 0,
+        Some(before) => level <= before + 1,
+    }
+}
+
+/// The record whose header stands at `at`, after a record of level `before`.
+#[inline]
+fn read_record(stream: &[u8], at: usize, before: Option<u32>) -> Result<Row, Refusal> {
+    demand(stream.len() - at >= 4, 2, at)?;
+    let header = word(stream, at);
+    let (tag, level, size) = (header & 1023, header >> 10 & 1023, header >> 20);
+    demand(tag >= LOWEST_TAG, 5, at)?;
+    demand(level_rule(before, level), 6, at)?;
+    let (length, place) = if size == LONG {
+        demand(stream.len() - at >= 8, 2, at)?;
+        let length = word(stream, at + 4);
+        demand(length >= LONG, 3, at)?;
+        (length, at + 8)
+    } else {
+        (size, at + 4)
+    };
+    demand(length as usize <= stream.len() - place, 4, at)?;
+    Ok(Row {
+        tag,
+        level,
+        place: place as u32,
+        length,
+    })
+}
+
+/// Visits every record of the stream, up to the first refusal; 7 is not asked. Gives the record count.
+fn each_record(stream: &[u8], mut visit: impl FnMut(usize, Row)) -> Result<usize, Refusal> {
+    demand(stream.len() <= LIMIT, 1, 0)?;
+    let (mut at, mut count, mut before) = (0, 0, None);
+    while at < stream.len() {
+        let row = read_record(stream, at, before)?;
+        visit(count, row);
+        at = row.end();
+        before = Some(row.level);
+        count += 1;
+    }
+    Ok(count)
+}
+
+/// Every record of the stream, or the first refusal; 7 is not asked.
+pub fn tile(stream: &[u8]) -> Result<Vec<Row>, Refusal> {
+    let mut rows: Vec<Row> = Vec::new();
+    each_record(stream, |_, row| rows.push(row))?;
+    Ok(rows)
+}
+
+/// Read: the records of a stream, for lists with room for `room` records.
+pub fn read(stream: &[u8], room: usize) -> Result<Vec<Row>, Refusal> {
+    let rows = tile(stream)?;
+    match rows.get(room) {
+        Some(row) => refuse(7, row.header()),
+        None => Ok(rows),
+    }
+}
+
+/// Read into four lent lists (tags, levels, places, lengths): one pass judges, a second writes.
+pub fn read_into(stream: &[u8], lists: [&mut [u32]; 4]) -> Result<usize, Refusal> {
+    let room = lists.iter().map(|list| list.len()).min().unwrap_or(0);
+    let mut over = 0;
+    let count = each_record(stream, |index, row| {
+        if index == room {
+            over = row.header();
+        }
+    })?;
+    demand(count <= room, 7, over)?;
+    let [tags, levels, places, lengths] = lists.map(|list| &mut list[..count]);
+    each_record(stream, |index, row| {
+        tags[index] = row.tag;
+        levels[index] = row.level;
+        places[index] = row.place;
+        lengths[index] = row.length;
+    })
+}
+
+/// Pack: writes `count` records whose bodies stand in `bytes`, and gives the length written.
+pub fn pack(
+    count: u64,
+    tags: &[u32],
+    levels: &[u32],
+    places: &[u32],
+    lengths: &[u32],
+    bytes: &[u8],
+    out: &mut [u8],
+) -> Result<usize, Refusal> {
+    let shortest = tags
+        .len()
+        .min(levels.len())
+        .min(places.len())
+        .min(lengths.len());
+    demand(count <= shortest as u64, 27, 0)?;
+    let count = count as usize;
+    let mut total: u128 = 0;
+    for index in 0..count {
+        demand((LOWEST_TAG..=HIGHEST).contains(&tags[index]), 5, index)?;
+        let before = index.checked_sub(1).map(|before| levels[before]);
+        let level = levels[index];
+        demand(level <= HIGHEST && level_rule(before, level), 6, index)?;
+        let end = u64::from(places[index]) + u64::from(lengths[index]);
+        demand(end <= bytes.len() as u64, 4, index)?;
+        total += (header_length(lengths[index]) as u128) + u128::from(lengths[index]);
+    }
+    demand(total <= LIMIT as u128, 1, 0)?;
+    let total = total as usize;
+    demand(total <= out.len(), 26, 0)?;
+    let mut at = 0;
+    for index in 0..count {
+        let header = header_of(tags[index], levels[index], lengths[index]);
+        let place = places[index] as usize;
+        let body = &bytes[place..place + lengths[index] as usize];
+        for part in [&header, body] {
+            out[at..at + part.len()].copy_from_slice(part);
+            at += part.len();
+        }
+    }
+    Ok(total)
+}

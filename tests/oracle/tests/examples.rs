@@ -1,0 +1,306 @@
+//! Document 01's examples: the pairs at each edge and the lister's input.
+
+use oracle::records::header_of;
+use oracle::{answer, check, field_text, fill, list, pack, read, read_docinfo, read_section};
+use oracle::{read_into, Refusal, Row, LIMIT};
+
+fn refused<T>(number: u8, place: usize) -> Result<T, Refusal> {
+    Err(Refusal { number, place })
+}
+
+fn record(tag: u32, level: u32, body: &[u8]) -> Vec<u8> {
+    [header_of(tag, level, body.len() as u32), body.to_vec()].concat()
+}
+
+fn halves(units: &[u16]) -> Vec<u8> {
+    units.iter().flat_map(|unit| unit.to_le_bytes()).collect()
+}
+
+fn control(code: u16) -> Vec<u16> {
+    vec![code, 1, 2, 13, 4, 5, 6, code]
+}
+
+fn header_body(count: u32, shapes: u16, marks: u16, lines: u16) -> Vec<u8> {
+    let mut body = vec![0; 22];
+    body[0..4].copy_from_slice(&count.to_le_bytes());
+    body[12..14].copy_from_slice(&shapes.to_le_bytes());
+    body[14..16].copy_from_slice(&marks.to_le_bytes());
+    body[16..18].copy_from_slice(&lines.to_le_bytes());
+    body
+}
+
+fn shapes_body(starts: &[u32]) -> Vec<u8> {
+    let entries = starts.iter().enumerate();
+    entries
+        .flat_map(|(nth, start)| [start.to_le_bytes(), (100 + nth as u32).to_le_bytes()].concat())
+        .collect()
+}
+
+fn field_body(id: u32) -> Vec<u8> {
+    let mut body = b"klc%\0\0\0\0\0\0\0".to_vec();
+    body.extend_from_slice(&id.to_le_bytes());
+    body
+}
+
+/// A paragraph with the units as text and one control header of id 7 for each field.
+fn paragraph(units: &[u16], starts: &[u32], fields: usize) -> Vec<u8> {
+    let header = header_body(units.len() as u32, starts.len() as u16, 0, 0);
+    let mut stream = record(66, 0, &header);
+    stream.extend(record(67, 1, &halves(units)));
+    stream.extend(record(68, 1, &shapes_body(starts)));
+    for _ in 0..fields {
+        stream.extend(record(71, 1, &field_body(7)));
+    }
+    stream
+}
+
+/// A field at position 0 with a value, then `tail` ordinary units and the end.
+fn field_text_units(value: usize, tail: usize) -> Vec<u16> {
+    let mut units = control(3);
+    units.extend(vec![0xAC00; value]);
+    units.extend(control(4));
+    units.extend(vec![65; tail]);
+    units.push(13);
+    units
+}
+
+fn sheet_of(stream: &[u8], id: u32, value: &[u16]) -> Vec<u8> {
+    let mut sheet = vec![0x5A; stream.len() + 4096];
+    let length = fill(stream, id, &halves(value), &mut sheet).unwrap();
+    assert!(sheet[length..].iter().all(|&byte| byte == 0x5A));
+    sheet.truncate(length);
+    sheet
+}
+
+fn starts_of(stream: &[u8]) -> Vec<(u32, u32)> {
+    let rows = read(stream, usize::MAX).unwrap();
+    let row = rows.iter().find(|row| row.tag == 68).unwrap();
+    let word = |entry: &[u8]| u32::from_le_bytes(entry.try_into().unwrap());
+    let entries = row.body(stream).chunks_exact(8);
+    entries.map(|e| (word(&e[..4]), word(&e[4..]))).collect()
+}
+
+#[test]
+fn empty_stream_and_three_bytes() {
+    assert_eq!(read(&[], 0), Ok(vec![]));
+    assert_eq!(read(&[0x42, 0, 0], 9), refused(2, 0));
+    assert_eq!(check(&[]), Ok(0));
+}
+
+#[test]
+fn body_of_4094_and_4095() {
+    let row = |place, length| Row {
+        tag: 20,
+        level: 0,
+        place,
+        length,
+    };
+    assert_eq!(read(&record(20, 0, &[1; 4094]), 1), Ok(vec![row(4, 4094)]));
+    assert_eq!(read(&record(20, 0, &[1; 4095]), 1), Ok(vec![row(8, 4095)]));
+    assert_eq!(record(20, 0, &[1; 4094]).len(), 4098);
+    assert_eq!(record(20, 0, &[1; 4095]).len(), 4103);
+    let mut long = record(20, 0, &[1; 4095]);
+    long[4..8].copy_from_slice(&4094u32.to_le_bytes());
+    assert_eq!(read(&long, 1), refused(3, 0));
+    assert_eq!(read(&long[..7], 1), refused(2, 0));
+}
+
+#[test]
+fn levels() {
+    let stream = |levels: &[u32]| -> Vec<u8> {
+        levels
+            .iter()
+            .flat_map(|&level| record(20, level, &[]))
+            .collect()
+    };
+    assert_eq!(read(&stream(&[1]), 9), refused(6, 0));
+    assert_eq!(read(&stream(&[0, 1, 0]), 9).map(|rows| rows.len()), Ok(3));
+    assert_eq!(read(&stream(&[0, 2]), 9), refused(6, 4));
+    assert_eq!(read(&stream(&[0, 1, 0]), 2), refused(7, 8));
+}
+
+#[test]
+fn read_into_lists() {
+    let stream = [record(20, 0, &[1, 2]), record(21, 1, &[3; 4095])].concat();
+    let mut lists = [vec![7; 2], vec![7; 3], vec![7; 2], vec![7; 4]];
+    let lent = lists.each_mut().map(Vec::as_mut_slice);
+    assert_eq!(read_into(&stream, lent), Ok(2));
+    let written: [&[u32]; 4] = [&[20, 21], &[0, 1, 7], &[4, 14], &[2, 4095, 7, 7]];
+    assert_eq!(lists, written.map(<[u32]>::to_vec));
+    let mut lists = [vec![7; 2], vec![7; 3], vec![7; 1], vec![7; 4]];
+    let lent = lists.each_mut().map(Vec::as_mut_slice);
+    assert_eq!(read_into(&stream, lent), refused(7, 6));
+    assert!(lists.concat().iter().all(|&entry| entry == 7));
+}
+
+#[test]
+fn limit() {
+    let whole = record(20, 0, &vec![0; LIMIT - 8]);
+    assert_eq!(read(&whole, 1).map(|rows| rows.len()), Ok(1));
+    assert_eq!(read(&vec![0; LIMIT + 1], 1), refused(1, 0));
+}
+
+#[test]
+fn pack_and_its_numbers() {
+    let bytes = [9, 8, 7];
+    let mut out = [0xEE; 16];
+    let good = pack(2, &[20, 21], &[0, 1], &[1, 0], &[2, 3], &bytes, &mut out);
+    assert_eq!(good, Ok(13));
+    let written = [
+        record(20, 0, &[8, 7]),
+        record(21, 1, &[9, 8, 7]),
+        vec![0xEE; 3],
+    ];
+    assert_eq!(out.to_vec(), written.concat());
+    let mut try_pack = |count, tag: u32, level: u32, place: u32, length: u32, room: usize| {
+        let out = &mut out[..room];
+        pack(count, &[tag], &[level], &[place], &[length], &bytes, out)
+    };
+    assert_eq!(try_pack(1, 20, 0, 3, 0, 4), Ok(4));
+    assert_eq!(try_pack(0, 1, 9, 9, 9, 0), Ok(0));
+    assert_eq!(try_pack(2, 1, 9, 9, 9, 0), refused(27, 0));
+    assert_eq!(try_pack(1 << 63, 20, 0, 0, 0, 16), refused(27, 0));
+    assert_eq!(try_pack(1, 15, 1, 9, 9, 0), refused(5, 0));
+    assert_eq!(try_pack(1, 1024, 1, 9, 9, 0), refused(5, 0));
+    assert_eq!(try_pack(1, 1023, 1, 9, 9, 0), refused(6, 0));
+    assert_eq!(try_pack(1, 20, 0, 4, 0, 0), refused(4, 0));
+    assert_eq!(try_pack(1, 20, 0, 1, 3, 0), refused(4, 0));
+    assert_eq!(try_pack(1, 20, 0, u32::MAX, u32::MAX, 0), refused(4, 0));
+    assert_eq!(try_pack(1, 20, 0, 0, 3, 6), refused(26, 0));
+    let (many, zeros, bytes) = (vec![20; 4096], vec![0; 4096], vec![0; 1 << 20]);
+    let lengths = vec![(1 << 20) - 8; 4096];
+    let sum = pack(4096, &many, &zeros, &zeros, &lengths, &bytes, &mut out);
+    assert_eq!(sum, refused(1, 0));
+}
+
+#[test]
+fn text_pairs() {
+    assert_eq!(check(&paragraph(&[13], &[0], 0)), Ok(3));
+    let mut nine = control(9);
+    nine.push(13);
+    assert_eq!(check(&paragraph(&nine, &[0], 0)), Ok(3));
+    nine[7] = 8;
+    assert_eq!(check(&paragraph(&nine, &[0], 0)), refused(12, 26));
+    assert_eq!(check(&paragraph(&[65, 0, 13], &[0], 0)), refused(12, 26));
+    assert_eq!(check(&paragraph(&[13, 13], &[0], 0)), refused(12, 26));
+    assert_eq!(check(&paragraph(&[65, 66], &[0], 0)), refused(12, 26));
+    assert_eq!(check(&paragraph(&control(9), &[0], 0)), refused(12, 26));
+}
+
+#[test]
+fn fill_pairs() {
+    let units = field_text_units(3, 8);
+    let value = [65, 66, 67, 68];
+    let ids = |starts: &[(u32, u32)]| starts.iter().map(|&(start, _)| start).collect::<Vec<_>>();
+    let filled = |starts: &[u32], value: &[u16]| {
+        let stream = paragraph(&units, starts, 1);
+        starts_of(&sheet_of(&stream, 7, value))
+    };
+    assert_eq!(
+        filled(&[0, 8, 19], &value),
+        [(0, 100), (12, 101), (20, 102)]
+    );
+    assert_eq!(filled(&[0, 9, 11], &value), [(0, 100), (12, 102)]);
+    assert_eq!(ids(&filled(&[0, 9], &[])), [0, 8]);
+}
+
+#[test]
+fn text_and_bit_15_after_a_fill() {
+    let stream = paragraph(&field_text_units(3, 8), &[0], 1);
+    let (start, length) = field_text(&stream, 7).unwrap();
+    assert_eq!((start, length), (30 + 16, 6));
+    let sheet = sheet_of(&stream, 7, &[65, 66, 67, 68]);
+    assert_eq!(field_text(&sheet, 7), Ok((30 + 16, 8)));
+    assert_eq!(sheet[46..54], halves(&[65, 66, 67, 68]));
+    assert_eq!(sheet[0..4], stream[0..4]);
+    assert_eq!(u32::from(sheet[4]), 29);
+    let row = read(&sheet, 9).unwrap()[3];
+    assert_eq!(row.body(&sheet)[4..8], [0, 0x80, 0, 0]);
+    assert_eq!(check(&sheet), Ok(4));
+}
+
+#[test]
+fn from_2047_to_2048_units() {
+    let stream = paragraph(&field_text_units(3, 2047 - 20), &[0, 5], 1);
+    assert_eq!(read(&stream, 9).unwrap()[1].length, 4094);
+    let sheet = sheet_of(&stream, 7, &[65, 66, 67, 68]);
+    assert_eq!(sheet.len(), stream.len() + 6);
+    assert_eq!(sheet_of(&sheet, 7, &[65, 66, 67]).len(), stream.len());
+}
+
+#[test]
+fn fill_numbers() {
+    let stream = paragraph(&field_text_units(3, 8), &[0], 1);
+    let mut sheet = vec![0; 4096];
+    let mut try_fill =
+        |stream: &[u8], id, value: &[u8], room: usize| fill(stream, id, value, &mut sheet[..room]);
+    assert_eq!(try_fill(&stream, 8, &[65], 0), refused(20, 0));
+    assert_eq!(try_fill(&stream, 8, &[31, 0], 0), refused(20, 0));
+    assert_eq!(try_fill(&stream, 8, &[65; 2050], 0), refused(20, 0));
+    assert_eq!(try_fill(&stream, 8, &[32, 0], 0), refused(21, 0));
+    assert_eq!(
+        try_fill(&stream, 7, &[32, 0], stream.len() - 5),
+        refused(26, 0)
+    );
+    assert_eq!(
+        try_fill(&stream, 7, &[32, 0], stream.len() - 4),
+        Ok(stream.len() - 4)
+    );
+    let twice = [stream.clone(), stream.clone()].concat();
+    assert_eq!(field_text(&twice, 7), refused(22, 2 * stream.len() - 19));
+    let mut open = control(3);
+    open.extend([65, 13]);
+    let open = paragraph(&open, &[0], 1);
+    assert_eq!(try_fill(&open, 7, &[], 4096), refused(23, open.len() - 19));
+}
+
+#[test]
+fn docinfo() {
+    let mut counts = [0u16; 16];
+    counts[3] = 1;
+    counts[15] = 1;
+    let stream = |counts: &[u16]| {
+        let mut stream = record(16, 0, &[0; 30]);
+        stream.extend(record(17, 0, &halves(counts)));
+        stream.extend(record(19, 1, &[]));
+        stream.extend(record(19, 2, &[]));
+        stream.extend(record(92, 1, &[]));
+        stream
+    };
+    assert_eq!(
+        read_docinfo(&stream(&counts), 5).map(|rows| rows.len()),
+        Ok(5)
+    );
+    assert_eq!(read_docinfo(&stream(&counts), 4), refused(7, 34 + 36 + 8));
+    counts[4] = 1;
+    assert_eq!(read_docinfo(&stream(&counts), 5), refused(18, 34));
+    counts[4] = 0xFFFF;
+    counts[3] = 2;
+    assert_eq!(read_docinfo(&stream(&counts), 5), refused(18, 34));
+    assert_eq!(read_docinfo(&record(17, 0, &[]), 5), refused(16, 0));
+    let swapped = [record(17, 0, &[0; 32]), record(16, 0, &[0; 29])].concat();
+    assert_eq!(read_docinfo(&swapped, 5), refused(17, 36));
+}
+
+#[test]
+fn lister() {
+    let mut input = vec![0x42, 0x00, 0x60, 0x01, 2, 0, 0, 0];
+    input.extend([0; 8]);
+    input.extend([1, 0]);
+    input.extend([0; 8]);
+    input.extend([0x43, 0x04, 0x40, 0x00, 0x41, 0x00, 0x0D, 0x00]);
+    input.extend([0x44, 0x04, 0x80, 0x00]);
+    input.extend([0; 8]);
+    assert_eq!(input.len(), 46);
+    assert_eq!(list(&input), "0 66 0 22\n26 67 1 4\n34 68 1 8\nok 3\n");
+    assert_eq!(list(&input[..45]), "refused 4 at 34\n");
+    assert_eq!(list(&[]), "ok 0\n");
+    assert_eq!(list(&vec![0; 65_537]), "refused 1 at 0\n");
+    assert_eq!(read_section(&input, 2), refused(7, 34));
+}
+
+#[test]
+fn the_hosts_number() {
+    assert_eq!(answer(12, 26, 0), 12 + 256 * 26);
+    assert_eq!(answer(0, LIMIT, 2048), 256 * (1 << 24) + 2048 * (1 << 36));
+}
