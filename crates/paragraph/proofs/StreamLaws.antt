@@ -7,16 +7,16 @@ use mathlib.Core.Option.{Option, none, some}
 use mathlib.Core.List.{List, [], _∷_, _++_}
 use lib.Dec.{ltb}
 use borrow.Author.Tests.{ltb-true, ltb-false}
-use lib.ListN.{length, take, drop, length-drop}
+use lib.ListN.{length, take, drop, length-drop, length-append}
 use lib.Seq.{drop-drop, drop-at, take-add, length-take-le}
 use Rattle.numbers.specs.Little.{Bytes}
-use Rattle.records.specs.Records.{Rec, leadOf, headerOf, encodeOne, size}
-use Rattle.records.specs.Reading.{Stands, whole, fault, standsAt, frontOf}
+use Rattle.records.specs.Records.{Rec, leadOf, headerOf, encodeOne, encode, size, Obeys, Lawful}
+use Rattle.records.specs.Reading.{Stands, whole, fault, standsAt, frontOf, readFrom, readAll}
 use Rattle.records.specs.declared.fault.Fault.{Fault}
 use Rattle.records.specs.declared.header.Header.{Header}
 use Rattle.records.specs.declared.header.Front.{Front}
 use Rattle.records.specs.declared.header.Front.the-variants as H
-use Rattle.records.proofs.ReadingLaws.{Here, here, Found, found, size-least, length-headerOf}
+use Rattle.records.proofs.ReadingLaws.{Here, here, Found, found, size-least, length-headerOf, length-encodeOne, stands-encode, encode-read}
 use Rattle.numbers.proofs.LittleLaws.{bytes-drop, part-rest}
 use Rattle.paragraph.specs.Stream.{within, recordsIn}
 
@@ -135,3 +135,26 @@ none-at s at f e = none-by (drop at s) (standsAt 1023 (drop at s)) f refl (ap (�
 
 pub none-left : (s : List ℕ) (at : ℕ) → length s ≤ at → recordsIn (drop at s) ≡ []
 none-left s at h = in-end (drop at s) (omega (arith, length-drop at s))
+
+-- ---- the records of a whole stream
+
+-- a level has ten bits
+any-level : {cap : ℕ} {r : Rec} → Obeys cap r → Obeys 1023 r
+any-level o =
+    record { tag-low = o .tag-low; tag-high = o .tag-high; level-cap = omega (arith, o .level-high); level-high = o .level-high; body-fits = o .body-fits }
+
+pub in-encode : (cap : ℕ) (rs : List Rec) → Lawful cap rs → recordsIn (encode rs) ≡ rs
+unfolding encode
+in-encode cap [] l = in-end [] refl
+in-encode cap (r ∷ rs) l =
+    in-next (encodeOne r ++ encode rs) r (omega (arith, length-append (encodeOne r) (encode rs), length-encodeOne r, size-least r))
+    (stands-encode 1023 r (encode rs) (any-level (l .0)))
+    ∙ ap (λ (t : List ℕ). r ∷ recordsIn t) (drop-at (encodeOne r) (encode rs) (size r) (length-encodeOne r))
+    ∙ ap (λ (t : List Rec). r ∷ t) (in-encode (r .level + 1) rs (l .1))
+
+-- the records of a stream that reads to its end are those that are read
+pub in-read : (s : List ℕ) → Bytes s → readAll s .stop ≡ none → recordsIn s ≡ readAll s .recs
+unfolding readAll
+in-read s bs e =
+    let k = encode-read 0 s bs e in
+    ap recordsIn (sym (k .stream)) ∙ in-encode 0 (readFrom 0 0 s .recs) (k .lawful)

@@ -1,2 +1,3 @@
 pub mod Parents
+pub mod Seats
 pub mod Section

@@ -27,11 +27,15 @@ abbrev pub refusalOr : ℕ → List Rec → Finding → Option Refusal → Optio
 refusalOr at rs G.Lawful rest = rest
 refusalOr at rs (G.Breach f w) rest = some (refusal f (at + placeOf rs w))
 
+-- the finding of the first of some records, by its tag
+abbrev pub findingOf : ℕ → List Rec → Finding
+findingOf tag rs = cond (header tag) (firstFault rs) G.Lawful
+
 -- the paragraphs in stream order, where the first of the records stands at `at`
 unfoldable pub paragraphsFault : ℕ → List Rec → Option Refusal
 paragraphsFault at [] = none
 paragraphsFault at (r ∷ rs) =
-    refusalOr at (r ∷ rs) (cond (header (r .tag)) (firstFault (r ∷ rs)) G.Lawful) (paragraphsFault (at + size r) rs)
+    refusalOr at (r ∷ rs) (findingOf (r .tag) (r ∷ rs)) (paragraphsFault (at + size r) rs)
 
 -- 9 at a place, and else what follows
 abbrev pub strayOr : Option ℕ → Option Refusal → Option Refusal
