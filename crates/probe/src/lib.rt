@@ -5,3 +5,4 @@ mod reading;
 pub use packing::probe_pack;
 pub use reading::probe_read;
 pub use reading::probe_read_docinfo;
+pub use reading::probe_read_section;
