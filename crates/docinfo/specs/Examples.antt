@@ -1,7 +1,7 @@
 -- DocInfo at its edges, as one table that antt computes: records, and the number and place that they get (0 for accepted).
 use Prim.Native.Nat.{ℕ, _+_}
 use mathlib.Core.List.{List, [], _∷_, _++_}
-use mathlib.Core.Bool.{Bool, true, false, _&&_}
+use mathlib.Core.Bool.{Bool, true, _&&_}
 use lib.Dec.{T, eqb}
 use lib.ListN.{replicate}
 use Rattle.numbers.specs.Little.{little, span, bytesOf}
