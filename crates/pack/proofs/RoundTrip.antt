@@ -14,10 +14,11 @@ use Rattle.records.specs.Table.{readAnswer, entered, tagOf, levelOf, lengthOf, 
 use Rattle.records.specs.Promise.{Promised}
 use Rattle.records.proofs.Reader.{IsStream, accepted-stream, stream-records, stream-accepted}
 use Rattle.pack.specs.Rows.{rows, pointed, records}
-use Rattle.pack.specs.Packing.{packAnswer, leaves, Accepts, Packs}
+use Rattle.pack.specs.Packing.{packAnswer, leaves, Accepts}
+use Rattle.pack.specs.Promise.{Packs}
 use Rattle.pack.specs.declared.judge.Packed.{Packed}
 use Rattle.pack.specs.declared.judge.Packed.the-variants as P
-use Rattle.pack.proofs.PackLaws.{accepted, accepts, sound-inside}
+use Rattle.pack.proofs.Reader.{accepted, accepts, sound-inside}
 use Rattle.pack.proofs.RoundLaws.{rowsOf, table-of, longer, length-places, point-back, sound-back, length-rows, packed-columns, lawful-packed, column}
 
 -- ---- read, then pack

@@ -76,11 +76,6 @@ pub record Accepts (count : ℕ) (tags levels places lengths bytes : List ℕ) (
   pub limited : n ≤ limit
   pub roomy : n ≤ room
 
--- pack's promise
-pub record Packs (count : ℕ) (tags levels places lengths bytes out : List ℕ) (answer : Packed) (out′ : List ℕ) : Type 0 where
-  pub answer-is : answer ≡ packAnswer count tags levels places lengths bytes (length out)
-  pub out-is : out′ ≡ leaves (packAnswer count tags levels places lengths bytes (length out)) (records bytes (rows count tags levels places lengths)) out
-
 -- document 01's number of an answer, 0 where it is accepted
 abbrev pub number : Packed → ℕ
 number (P.Length n) = 0

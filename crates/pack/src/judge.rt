@@ -1,13 +1,15 @@
 // Judging a table before a byte of it is written.
 use crate::put::lead;
 use records::Fault;
+use records::bits;
 ghost use mathlib.Core.Path.{_≡_};
 ghost use Prim.Native.Nat.{_+_, _≤_, _<_, min};
 ghost use lib.ListN.{length};
+ghost use Rattle.records.specs.Answers.{hostForm};
 ghost use Rattle.records.specs.Records.{leadOf};
 ghost use Rattle.records.specs.Table.{shortest};
 ghost use Rattle.pack.specs.Rows.{Row, rows, rowOf};
-ghost use Rattle.pack.specs.Packing.{verdict, closing, rowsAnswer, packAnswer};
+ghost use Rattle.pack.specs.Packing.{number, place, verdict, closing, rowsAnswer, packAnswer};
 
 // A record's index in the table.
 pub struct Index(pub usize);
@@ -16,6 +18,18 @@ pub struct Index(pub usize);
 pub enum Packed {
     Length(usize),
     Refused { fault: Fault, index: Index },
+}
+
+impl Packed {
+    // The host's form: the number, plus 256 times the index or the length that stands in its column for 0.
+    pub fn host(self) -> u64
+        ensures { λ r. ⌜ r ≡ hostForm (number self) (place self) 0 ⌝ }
+    {
+        match self {
+            Packed::Length(n) => 256 * bits(n),
+            Packed::Refused { fault, index } => fault.number() + 256 * bits(index.0),
+        }
+    }
 }
 
 // What one row's numbers say.

@@ -9,7 +9,7 @@ ghost use lib.ListN.{length};
 ghost use Rattle.records.specs.Records.{encode};
 ghost use Rattle.records.specs.Table.{shortest, written};
 ghost use Rattle.pack.specs.Rows.{rows, records, Inside};
-ghost use Rattle.pack.specs.Packing.{Packs};
+ghost use Rattle.pack.specs.Promise.{Packs};
 
 // The second pass: the records of a table that was judged sound.
 fn lay(

@@ -1,15 +1,13 @@
 -- A text has no fault exactly when it is sound. Assumes nothing.
-use Prim.Native.Nat.{ℕ, zero, suc, _+_, _-_, _≤_, _<_}
+use Prim.Native.Nat.{ℕ, zero, suc, _+_, _-_, _<_}
 use native.Mathlib.Omega.{arith}
 use mathlib.Core.Path.{_≡_, refl, sym, ap, _∙_}
 use mathlib.Core.Logic.{_⊎_, inl, inr, _↔_}
-use mathlib.Core.Option.{Option, none, some}
+use mathlib.Core.Option.{none}
 use mathlib.Core.List.{List, [], _∷_, _++_}
-use lib.ListN.{length, getD, take, drop, length-append, length-drop, drop-of-length-le}
+use lib.ListN.{length, getD, take, drop, length-drop}
 use lib.Seq.{split-at, length-take-le, drop-at, drop-drop, getD-at}
 use Rattle.text.specs.Walk.{among, classOf, what, width, Front, stands, broken, over, frontOf, front, fault, faultOr, textFault, Sound, ending, single, eight}
-use Rattle.text.specs.declared.Standing.{Standing}
-use Rattle.text.proofs.Cases.{lt-or}
 use Rattle.text.proofs.TableLaws.{width-or}
 use Rattle.text.proofs.WalkLaws.{Stands, stands-front, front-stands, front-left, width-pos}
 

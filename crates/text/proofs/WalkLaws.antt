@@ -1,23 +1,22 @@
 -- The walk's clauses: what stands at a position, and the walk behind it. Assumes nothing.
 use Prim.Native.Nat.{ℕ, zero, suc, _+_, _-_, _≤_, _<_}
 use native.Mathlib.Omega.{arith}
-use mathlib.Core.Path.{_≡_, refl, sym, ap, _∙_}
+use mathlib.Core.Path.{_≡_, refl, ap}
 use mathlib.Core.Logic.{_⊎_, inl, inr}
 use mathlib.Core.Bool.{Bool, true, false, cond, not}
-use mathlib.Core.Option.{Option, none, some}
+use mathlib.Core.Option.{none, some}
 use mathlib.Core.List.{List, [], _∷_}
 use lib.Dec.{ltb, eqb}
-use lib.ListN.{length, getD, drop, length-drop, drop-of-length-le}
+use lib.ListN.{length, getD, drop, length-drop}
 use lib.Seq.{drop-cons, drop-drop, drop-nil, getD-drop}
-use borrow.Author.Tests.{lt-ltb, le-ltb, eq-eqb, ne-eqb, ltb-false, eqb-true, eqb-false, not-false}
-use Rattle.text.specs.Walk.{what, width, Front, stands, broken, over, frontOf, front, Token, walk, tokensAt, fault, faultOr, faultAt}
+use borrow.Author.Tests.{le-ltb, eq-eqb, ne-eqb, ltb-false, eqb-true, eqb-false, not-false}
+use Rattle.text.specs.Walk.{what, width, Front, stands, broken, over, frontOf, front, Token, walk, tokensAt, fault, faultAt}
 use Rattle.text.specs.Answers.{place, stepOf, stepAt}
 use Rattle.text.specs.declared.Standing.{Standing}
 use Rattle.text.specs.declared.Position.{Position}
 use Rattle.text.specs.declared.Cursor.{Cursor}
-use Rattle.text.specs.declared.Step.{Step}
 use Rattle.text.specs.declared.Step.the-variants as step
-use Rattle.text.proofs.Cases.{lt-or, eq-or}
+use Rattle.text.proofs.Cases.{eq-or}
 use Rattle.text.proofs.TableLaws.{width-or}
 
 -- ---- what stands at the front

@@ -1,3 +1,4 @@
+-- The ways out of the total: 1, 26. Assumes nothing.
 use mathlib.Core.Path.{sym}
 use Rattle.pack.proofs.RowLaws.{closing-over, closing-short, closing-fits}
 use Rattle.pack.proofs.judge.close.Statement.{statement}

@@ -1,3 +1,4 @@
+-- The capped total. Assumes nothing.
 use borrow.Author.Needs.{needs}
 use native.Mathlib.Omega.{arith}
 use Rattle.pack.proofs.judge.grown.Statement.{statement}

@@ -1,3 +1,4 @@
+-- 27 first, then the rows. Assumes nothing.
 use native.Mathlib.Omega.{arith}
 use mathlib.Core.Path.{sym, _∙_}
 use Rattle.pack.proofs.JudgeLaws.{lists-short, lists-long}

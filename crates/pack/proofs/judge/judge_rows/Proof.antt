@@ -1,3 +1,4 @@
+-- The rows, one after the other: what is left answers for all. Assumes nothing.
 use borrow.Author.Needs.{needs}
 use native.Mathlib.Omega.{arith}
 use Prim.Native.Nat.{_-_}
@@ -17,6 +18,16 @@ Inv-loop count tags levels places lengths bytes room i₀ cap₀ total₀ i cap 
 
 abbrev μ-loop : tie.MeasureT-loop
 μ-loop count tags levels places lengths bytes room i₀ cap₀ total₀ i cap total = count - i
+
+-- behind a row that was judged: its length and its place as they were read, and the turn's beginning
+abbrev length-read : tie.After-row Inv-loop μ-loop → tie.After-wide Inv-loop μ-loop
+length-read c = c .before .before .before .before
+
+abbrev place-read : tie.After-row Inv-loop μ-loop → tie.After-wide2 Inv-loop μ-loop
+place-read c = c .before
+
+abbrev turn : tie.After-row Inv-loop μ-loop → tie.In-loop Inv-loop μ-loop
+turn c = c .before .before .before .before .before .before .before
 
 loop-holds : tie.Need-loop-holds Inv-loop μ-loop
 loop-holds c = judging-start _ _ _ _ _ _
@@ -58,7 +69,13 @@ enum-told : tie.Need-enum-told Inv-loop μ-loop
 enum-told c = search needs
 
 add-cap : tie.Need-add-cap Inv-loop μ-loop
-add-cap c = omega (arith, judging-level _ _ _ _ _ _ _ _ _ _ _ _ (c .before .before .before .before .before .before .before .before .before .loop-test .taken) (c .before .before .before .before .before .before .before .before .before .before .loop .inv) (c .before .before .before .wide2 .ensures .0) (c .before .before .before .before .before .before .wide .ensures .0) (c .before .before .row .ensures) (c .enum-told .given .1))
+add-cap c =
+    let d = c .before .before in
+    omega (
+      arith,
+      judging-level _ _ _ _ _ _ _ _ _ _ _ _ (turn d .loop-test .taken) (turn d .before .loop .inv)
+          (place-read d .wide2 .ensures .0) (length-read d .wide .ensures .0) (d .row .ensures) (c .enum-told .given .1),
+    )
 
 grown-requires : tie.Need-grown-requires Inv-loop μ-loop
 grown-requires c κs = search needs
@@ -70,13 +87,19 @@ loop-less : tie.Need-loop-less Inv-loop μ-loop
 loop-less c = search needs
 
 loop-again : tie.Need-loop-again Inv-loop μ-loop
-loop-again c = judging-next _ _ _ _ _ _ _ _ _ _ _ _ (c .before .before .before .before .before .before .before .before .before .before .loop-test .taken) (c .before .before .before .before .before .before .before .before .before .before .before .loop .inv) (c .before .before .before .before .wide2 .ensures .0) (c .before .before .before .before .before .before .before .wide .ensures .0) (c .before .before .before .row .ensures) _ (c .before .enum-told .given .1) (c .grown .ensures .0)
+loop-again c =
+    let d = c .before .before .before in
+    judging-next _ _ _ _ _ _ _ _ _ _ _ _ (turn d .loop-test .taken) (turn d .before .loop .inv)
+    (place-read d .wide2 .ensures .0) (length-read d .wide .ensures .0) (d .row .ensures) _ (c .before .enum-told .given .1) (c .grown .ensures .0)
 
 enum-known-fault : tie.Need-enum-known-fault Inv-loop μ-loop
 enum-known-fault c = search needs
 
 returns : tie.Need-returns Inv-loop μ-loop
-returns c = judging-stop _ _ _ _ _ _ _ _ _ _ _ _ (c .before .before .before .before .before .before .before .before .before .before .loop-test .taken) (c .before .before .before .before .before .before .before .before .before .before .before .loop .inv) (c .before .before .before .before .wide2 .ensures .0) (c .before .before .before .before .before .before .before .wide .ensures .0) (c .before .before .before .row .ensures) _ _ (c .before .fault .given .1)
+returns c =
+    let d = c .before .before .before in
+    judging-stop _ _ _ _ _ _ _ _ _ _ _ _ (turn d .loop-test .taken) (turn d .before .loop .inv)
+    (place-read d .wide2 .ensures .0) (length-read d .wide .ensures .0) (d .row .ensures) _ _ (c .before .fault .given .1)
 
 close-requires : tie.Need-close-requires Inv-loop μ-loop
 close-requires c κs = search needs

@@ -1,3 +1,4 @@
+-- The ways out of a row, each by the tests that led there. Assumes nothing.
 use borrow.Author.Tests.{lt-ltb, le-ltb}
 use Rattle.pack.specs.Packing.{verdict}
 use borrow.Author.Needs.{needs}

@@ -1,3 +1,4 @@
+-- How long a header is. Assumes nothing.
 use mathlib.Core.Path.{sym}
 use native.Mathlib.Omega.{arith}
 use Rattle.records.proofs.HeaderLaws.{lead-short, lead-long}

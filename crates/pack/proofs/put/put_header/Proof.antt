@@ -1,3 +1,4 @@
+-- A header in the form that its length asks for. Assumes nothing.
 use Rattle.pack.proofs.PutLaws.{put-short, put-long, put-no-header}
 use borrow.Author.Needs.{needs}
 use Rattle.pack.proofs.put.put_header.Statement.{statement}

@@ -1,3 +1,4 @@
+-- A header, and the body behind it. Assumes nothing.
 use native.Mathlib.Omega.{arith}
 use Rattle.records.specs.Records.{size}
 use Rattle.pack.proofs.PutLaws.{put-whole, put-nothing}

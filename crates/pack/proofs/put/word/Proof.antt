@@ -1,3 +1,4 @@
+-- A header's 32 bits. Assumes nothing.
 use mathlib.Core.Path.{refl}
 use Rattle.records.specs.Records.{headerWord}
 use borrow.Author.Needs.{needs}

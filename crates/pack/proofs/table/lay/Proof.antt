@@ -1,3 +1,4 @@
+-- The records, one behind the other: what is left to lay gives the whole. Assumes nothing.
 use borrow.Author.Needs.{needs}
 use native.Mathlib.Omega.{arith}
 use Prim.Native.Nat.{_-_}
@@ -14,6 +15,16 @@ Inv-loop count tags levels places lengths bytes out₀ i₀ at₀ out i at = Lay
 
 abbrev μ-loop : tie.MeasureT-loop
 μ-loop count tags levels places lengths bytes out₀ i₀ at₀ out i at = count - i
+
+-- behind a record that was put: its length and its place as they were read, and the turn's beginning
+abbrev length-read : tie.After-put-record Inv-loop μ-loop → tie.After-wide2 Inv-loop μ-loop
+length-read c = c .before .before .before .before .before
+
+abbrev place-read : tie.After-put-record Inv-loop μ-loop → tie.After-wide Inv-loop μ-loop
+place-read c = length-read c .before .before
+
+abbrev turn : tie.After-put-record Inv-loop μ-loop → tie.In-loop Inv-loop μ-loop
+turn c = place-read c .before .before
 
 loop-holds : tie.Need-loop-holds Inv-loop μ-loop
 loop-holds c =
@@ -75,7 +86,12 @@ put-record-requires : tie.Need-put-record-requires Inv-loop μ-loop
 put-record-requires c κs = search needs
 
 add-at : tie.Need-add-at Inv-loop μ-loop
-add-at c = omega (arith, laying-room _ _ _ _ _ _ _ _ _ _ (c .before .before .before .before .before .before .before .before .before .before .before .loop-test .taken) (c .before .before .before .before .before .before .before .before .before .before .before .before .loop .inv) _ _ _ (c .before .before .put-record .last .0) (c .before .before .before .before .before .before .before .before .before .wide .ensures .0) (c .before .before .before .before .before .before .before .wide2 .ensures .0) (c .before .before .put-record .ensures .0))
+add-at c =
+    omega (
+      arith,
+      laying-room _ _ _ _ _ _ _ _ _ _ (turn (c .before .before) .loop-test .taken) (turn (c .before .before) .before .loop .inv) _ _ _ (c .before .before .put-record .last .0)
+          (place-read (c .before .before) .wide .ensures .0) (length-read (c .before .before) .wide2 .ensures .0) (c .before .before .put-record .ensures .0),
+    )
 
 add-i : tie.Need-add-i Inv-loop μ-loop
 add-i c = search needs
@@ -84,7 +100,10 @@ loop-less : tie.Need-loop-less Inv-loop μ-loop
 loop-less c = search needs
 
 loop-again : tie.Need-loop-again Inv-loop μ-loop
-loop-again c = laying-next _ _ _ _ _ _ _ _ _ _ (c .before .before .before .before .before .before .before .before .before .before .before .loop-test .taken) (c .before .before .before .before .before .before .before .before .before .before .before .before .loop .inv) _ _ _ _ (c .before .before .before .before .before .before .before .before .before .wide .ensures .0) (c .before .before .before .before .before .before .before .wide2 .ensures .0) (c .before .before .put-record .ensures .0) (c .before .before .put-record .ensures .1)
+loop-again c =
+    let d = c .before .before in
+    laying-next _ _ _ _ _ _ _ _ _ _ (turn d .loop-test .taken) (turn d .before .loop .inv) _ _ _ _
+    (place-read d .wide .ensures .0) (length-read d .wide2 .ensures .0) (d .put-record .ensures .0) (d .put-record .ensures .1)
 
 same-length : tie.Need-same-length Inv-loop μ-loop
 same-length c = search needs

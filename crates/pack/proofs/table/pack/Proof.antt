@@ -1,3 +1,4 @@
+-- Judged first; only an acceptance is laid. Assumes nothing.
 use Rattle.pack.proofs.PackLaws.{may-lay, packs-laid, packs-refused}
 use borrow.Author.Needs.{needs}
 use Rattle.pack.proofs.table.pack.Statement.{statement}
