@@ -1,12 +1,11 @@
 -- The ways out of the DocInfo read, in the order of document 01. Assumes nothing.
 use Prim.Native.Nat.{ℕ, _+_, _-_, _≤_, _<_}
 use native.Mathlib.Omega.{arith}
-use mathlib.Core.Path.{_≡_, refl, sym, ap, ap₂, _∙_}
+use mathlib.Core.Path.{_≡_, refl, sym, ap, _∙_}
 use mathlib.Core.Option.{Option, none, some}
 use mathlib.Core.List.{List}
 use lib.ListN.{length, take, drop}
 use borrow.Author.Tests.{lt-ltb, le-ltb, eq-eqb, ne-eqb}
-use Rattle.records.specs.Records.{Rec}
 use Rattle.records.specs.Answers.{refusedAt}
 use Rattle.records.specs.Reading.{readAll}
 use Rattle.records.specs.Table.{readAnswer}
@@ -17,7 +16,7 @@ use Rattle.records.specs.declared.fault.Answer.{Answer}
 use Rattle.records.specs.declared.fault.Answer.the-variants as A
 use Rattle.records.proofs.HeaderLaws.{length-part}
 use Rattle.docinfo.specs.Children.{children}
-use Rattle.docinfo.specs.Only.{Placed, one, wrong, only, soleOf, placedAt, Within}
+use Rattle.docinfo.specs.Only.{only, soleOf, placedAt, Within}
 use Rattle.docinfo.specs.Counts.{countFault, verdictOf}
 use Rattle.docinfo.specs.DocInfo.{kidsOf, countRefusal, bodiesFault, judged, docinfoFault, ruled, further, docinfoAnswer}
 use Rattle.docinfo.specs.declared.seek.Met.{Met}

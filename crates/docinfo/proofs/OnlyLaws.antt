@@ -17,12 +17,11 @@ use Rattle.records.specs.declared.header.Header.{Header}
 use Rattle.records.specs.declared.header.Front.{Front}
 use Rattle.records.specs.declared.header.Front.the-variants as H
 use Rattle.records.proofs.ReadingLaws.{Here, here}
-use Rattle.docinfo.specs.Only.{Placed, tagged, Only, one, wrong, onlyOf, only, headOf, metOf, soughtOf, soleOf, placedAt, Within}
+use Rattle.docinfo.specs.Only.{Placed, tagged, Only, one, wrong, onlyOf, only, metOf, soughtOf, soleOf, placedAt, Within}
 use Rattle.docinfo.specs.declared.seek.Met.{Met}
 use Rattle.docinfo.specs.declared.seek.Sought.the-variants as S
-use Rattle.docinfo.specs.declared.seek.Sole.{Sole}
 use Rattle.docinfo.specs.declared.seek.Sole.the-variants as O
-use Rattle.docinfo.proofs.WalkLaws.{rest, walk-head, walk-next, walk-body, walk-stop, walk-end}
+use Rattle.docinfo.proofs.WalkLaws.{rest, walk-next, walk-body, walk-stop, walk-end}
 use Rattle.docinfo.proofs.SeekLaws.{tagged-here, tagged-other, tagged-none}
 
 -- ---- the record at the front of what is left stands there

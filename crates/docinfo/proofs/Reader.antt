@@ -1,11 +1,11 @@
 -- The reader's statement (document 01, 'DocInfo'): DocInfo is accepted, given room, exactly when it is a stream of records, one of them 16
 -- and one 17, both at level 0 and long enough, and the counts of 17 are those of its children. Assumes nothing.
-use Prim.Native.Nat.{ℕ, _+_, _≤_, _<_}
+use Prim.Native.Nat.{ℕ, _+_, _≤_}
 use native.Mathlib.Omega.{arith}
 use mathlib.Core.Path.{_≡_, refl, sym, ap, _∙_}
 use mathlib.Core.Bool.{Bool, true, false, cond}
 use mathlib.Core.Option.{Option, none, some}
-use mathlib.Core.List.{List, [], _∷_, _++_}
+use mathlib.Core.List.{List}
 use lib.Dec.{ltb, eqb}
 use lib.ListN.{length}
 use borrow.Author.Tests.{ltb-false, eqb-true, le-ltb, eq-eqb}
@@ -19,7 +19,6 @@ use Rattle.records.specs.declared.fault.Answer.the-variants as A
 use Rattle.records.proofs.Reader.{IsStream, accepted-stream, stream-records, stream-accepted}
 use Rattle.docinfo.specs.Children.{children}
 use Rattle.docinfo.specs.Only.{Placed, tagged, Only, one, wrong, onlyOf, only}
-use Rattle.docinfo.specs.Counts.{countFault}
 use Rattle.docinfo.specs.DocInfo.{kidsOf, countRefusal, bodiesFault, judged, docinfoFault, ruled, further, docinfoAnswer}
 use Rattle.docinfo.specs.Sound.{Single, CountsHold, Sound}
 use Rattle.docinfo.proofs.OnlyLaws.{onlyOf-is, onlyOf-one}

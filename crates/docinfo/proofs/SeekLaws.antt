@@ -1,5 +1,5 @@
 -- The laws of the records with a tag, and of the search for the first of them. Assumes nothing.
-use Prim.Native.Nat.{ℕ, _+_, _≤_, _<_}
+use Prim.Native.Nat.{ℕ, _+_}
 use native.Mathlib.Omega.{arith}
 use mathlib.Core.Path.{_≡_, refl, sym, ap, _∙_}
 use mathlib.Core.List.{List, [], _∷_}
@@ -9,7 +9,7 @@ use Rattle.records.specs.Records.{Rec, size}
 use Rattle.records.specs.declared.header.Header.{Header}
 use Rattle.records.proofs.ReadingLaws.{Here}
 use Rattle.docinfo.specs.Children.{keepIf}
-use Rattle.docinfo.specs.Only.{Placed, tagged, headOf, metOf, soughtOf}
+use Rattle.docinfo.specs.Only.{tagged, soughtOf}
 use Rattle.docinfo.specs.declared.seek.Sought.the-variants as S
 use Rattle.docinfo.proofs.WalkLaws.{rest, walk-head, walk-next}
 

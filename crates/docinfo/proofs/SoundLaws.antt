@@ -7,16 +7,16 @@ use mathlib.Core.Path.{_≡_, refl, sym, ap, _∙_}
 use mathlib.Core.Bool.{Bool, true, false, cond}
 use mathlib.Core.Option.{Option, none, some}
 use mathlib.Core.List.{List, [], _∷_, _++_}
-use lib.Dec.{ltb, leb, eqb, lit<}
+use lib.Dec.{leb, eqb, lit<}
 use lib.ListN.{length}
-use borrow.Author.Tests.{ltb-false, leb-false, eqb-true, eqb-false, lt-ltb, le-ltb, le-leb, lt-leb, eq-eqb, ne-eqb}
+use borrow.Author.Tests.{leb-false, eqb-true, eqb-false, lt-leb, eq-eqb}
 use Rattle.numbers.specs.Little.{span}
 use Rattle.records.specs.Records.{Rec, encode, size}
 use Rattle.records.proofs.ScanLaws.{length-encode}
-use Rattle.docinfo.specs.Children.{children, tally}
-use Rattle.docinfo.specs.Only.{Placed, tagged, Only, one, wrong, onlyOf, only}
+use Rattle.docinfo.specs.Children.{tally}
+use Rattle.docinfo.specs.Only.{Placed, tagged, one, only}
 use Rattle.docinfo.specs.Counts.{countAt, negative, negativeFrom, sumFrom, groups, unmatched, orElse, countFault}
-use Rattle.docinfo.specs.Sound.{Lacks, Single, CountsHold, Sound}
+use Rattle.docinfo.specs.Sound.{Lacks, CountsHold}
 use Rattle.docinfo.specs.declared.counts.Group.{Group}
 use Rattle.docinfo.proofs.SeekLaws.{tagged-here, tagged-other, tagged-none}
 

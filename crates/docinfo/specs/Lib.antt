@@ -4,3 +4,4 @@ pub mod Counts
 pub mod DocInfo
 pub mod Sound
 pub mod Promise
+pub mod Examples

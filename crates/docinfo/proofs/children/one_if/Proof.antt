@@ -1,3 +1,4 @@
+-- One more for a child with the tag. Assumes nothing.
 use Rattle.docinfo.proofs.ChildLaws.{once-both, once-level, once-neither}
 use Rattle.docinfo.proofs.children.one_if.Statement.{statement}
 use Rattle.docinfo.proofs.children.one_if.Tie as tie

@@ -1,3 +1,4 @@
+-- The bits of a count, two bytes of the body. Assumes nothing.
 use Rattle.docinfo.proofs.CountLaws.{count-short, count-whole}
 use Rattle.numbers.proofs.LittleLaws.{slice-bytes}
 use borrow.Author.Needs.{needs}

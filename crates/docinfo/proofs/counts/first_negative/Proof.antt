@@ -1,3 +1,4 @@
+-- The first negative count, by looking at each in order. Assumes nothing.
 use borrow.Author.Needs.{needs}
 use native.Mathlib.Omega.{arith}
 use Prim.Native.Nat.{_-_}

@@ -1,3 +1,4 @@
+-- A row of the code's table is that row of the definition's. Assumes nothing.
 use mathlib.Core.Path.{refl}
 use Rattle.docinfo.specs.Counts.{groups, groupAt}
 use Rattle.docinfo.proofs.CountLaws.{group-within}

@@ -1,0 +1,77 @@
+-- DocInfo at its edges, as one table that antt computes: records, and the number and place that they get (0 for accepted).
+use Prim.Native.Nat.{ℕ, _+_}
+use mathlib.Core.List.{List, [], _∷_, _++_}
+use mathlib.Core.Bool.{Bool, true, _&&_}
+use lib.Dec.{T, eqb}
+use lib.ListN.{replicate}
+use Rattle.numbers.specs.Little.{little, span, bytesOf}
+use Rattle.records.specs.Records.{Rec, leadOf, size}
+use Rattle.records.specs.Answers.{number, place}
+use Rattle.docinfo.specs.Children.{keepIf, children, once, tally}
+use Rattle.docinfo.specs.Only.{tagged, onlyOf, only}
+use Rattle.docinfo.specs.Counts.{countAt, negative, negativeFrom, sumFrom, groups, unmatched, orElse, countFault}
+use Rattle.docinfo.specs.DocInfo.{kidsOf, bodiesFault, judged, docinfoFault, ruled}
+
+pub record Example : Type 0 where
+  pub recs : List Rec
+  pub gets : ℕ
+  pub at : ℕ
+
+unfoldable pub right : Example → Bool
+right k = eqb (number (ruled 0 (docinfoFault (k .recs)))) (k .gets) && eqb (place (ruled 0 (docinfoFault (k .recs)))) (k .at)
+
+unfoldable pub allRight : List Example → Bool
+allRight [] = true
+allRight (k ∷ ks) = right k && allRight ks
+
+-- a record with an empty body, record 16 of n bytes, and record 17 with its counts
+unfoldable pub bare : ℕ → ℕ → Rec
+bare tag level = record { tag = tag; level = level; body = [] }
+
+unfoldable pub properties : ℕ → Rec
+properties n = record { tag = 16; level = 0; body = replicate n 0 }
+
+unfoldable pub bits : List ℕ → List ℕ
+bits [] = []
+bits (c ∷ cs) = bytesOf 2 c ++ bits cs
+
+unfoldable pub mappings : List ℕ → Rec
+mappings cs = record { tag = 17; level = 0; body = bits cs }
+
+unfoldable pub zeros : ℕ → List ℕ
+zeros n = replicate n 0
+
+unfoldable pub examples : List Example
+examples =
+    record { recs = properties 30 ∷ mappings (zeros 16) ∷ []; gets = 0; at = 0 }
+    -- in either order, and with children: one of 18, two of 19 by counts 1 and 7, one of 20 and of 92
+    ∷ record {
+      recs =
+          mappings (1 ∷ 1 ∷ zeros 5 ++ (1 ∷ 1 ∷ zeros 6 ++ (1 ∷ [])))
+          ∷ bare 18 1 ∷ bare 19 1 ∷ bare 40 2 ∷ bare 19 1 ∷ bare 20 1 ∷ bare 92 1 ∷ properties 31 ∷ [];
+      gets = 0;
+      at = 0;
+    }
+    -- absent, doubled, not at level 0
+    ∷ record { recs = []; gets = 16; at = 0 }
+    ∷ record { recs = bare 40 0 ∷ properties 30 ∷ []; gets = 16; at = 0 }
+    ∷ record { recs = bare 40 0 ∷ properties 30 ∷ mappings (zeros 16) ∷ properties 30 ∷ []; gets = 16; at = 74 }
+    ∷ record { recs = bare 40 0 ∷ bare 16 1 ∷ mappings (zeros 16) ∷ properties 30 ∷ []; gets = 16; at = 4 }
+    ∷ record { recs = properties 30 ∷ mappings (zeros 16) ∷ bare 17 1 ∷ []; gets = 16; at = 70 }
+    -- lengths: record 16 before record 17
+    ∷ record { recs = mappings (zeros 15) ∷ properties 29 ∷ []; gets = 17; at = 34 }
+    ∷ record { recs = mappings (zeros 15) ∷ properties 30 ∷ []; gets = 17; at = 0 }
+    ∷ record { recs = mappings (zeros 17) ∷ properties 30 ∷ []; gets = 17; at = 0 }
+    -- counts: negative, unmatched, a grandchild, a child of another record
+    ∷ record { recs = properties 30 ∷ mappings (zeros 15 ++ (65535 ∷ [])) ∷ []; gets = 18; at = 34 }
+    ∷ record { recs = properties 30 ∷ mappings (32768 ∷ zeros 15) ∷ []; gets = 18; at = 34 }
+    ∷ record { recs = properties 30 ∷ mappings (zeros 16) ∷ bare 18 1 ∷ []; gets = 18; at = 34 }
+    ∷ record { recs = properties 30 ∷ mappings (1 ∷ zeros 15) ∷ bare 40 1 ∷ bare 18 2 ∷ []; gets = 18; at = 34 }
+    ∷ record { recs = properties 30 ∷ bare 18 1 ∷ mappings (1 ∷ zeros 15) ∷ bare 40 0 ∷ bare 18 1 ∷ []; gets = 18; at = 38 }
+    -- other children are carried unexamined
+    ∷ record { recs = properties 30 ∷ bare 18 1 ∷ mappings (zeros 16) ∷ bare 27 1 ∷ bare 40 0 ∷ bare 18 1 ∷ []; gets = 0; at = 0 }
+    ∷ []
+
+pub all-right : T (allRight examples)
+unfolding allRight right examples bare properties bits mappings zeros docinfoFault judged bodiesFault kidsOf countFault orElse unmatched groups sumFrom negativeFrom negative countAt only onlyOf tagged tally once children keepIf size leadOf little span bytesOf
+all-right = tt
