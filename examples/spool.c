@@ -44,8 +44,8 @@ static int refused(const char *file, uint64_t answer)
 {
     unsigned number = hwp_number(answer);
     const char *where = hwp_place_words(number);
-    fprintf(stderr, "spool: %s: refused %u at %" PRIu32 " (0x%" PRIx32 ")%s%s: %s\n", file, number, hwp_place(answer),
-            hwp_place(answer), *where ? ", " : "", where, hwp_words(number));
+    fprintf(stderr, "spool: %s: refused %u at %" PRIu32 " (0x%" PRIx32 "): %s%s%s\n", file, number, hwp_place(answer),
+            hwp_place(answer), hwp_words(number), *where ? "; at that place: " : "", where);
     return REFUSED;
 }
 

@@ -129,7 +129,7 @@ static inline const char *hwp_words(unsigned number)
     case HWP_TAG_OUTSIDE:
         return "a record has a tag below 16, and those are reserved";
     case HWP_LEVEL_RULE:
-        return "the first record is not at level 0, or a record is more than one level below the one before it";
+        return "the first record is not at level 0, or a record is more than one level deeper than the one before it";
     case HWP_NO_ROOM:
         return "there are more records than the lists have room for";
     case HWP_PARAGRAPH_HEADER_SHORT:
@@ -138,7 +138,7 @@ static inline const char *hwp_words(unsigned number)
         return "a record of text, character shapes, line layout or marks is not below a paragraph header, is there "
                "twice, or has records below it";
     case HWP_RECORD_ABSENT:
-        return "a paragraph lacks its text, character shapes, line layout or marks, which its header asks for";
+        return "a paragraph lacks a record of text, character shapes, line layout or marks that it must have";
     case HWP_LENGTH_WRONG:
         return "a record of text, character shapes, line layout or marks does not have the length that the number in "
                "the paragraph header asks for, or is there though that number is 0";
@@ -188,7 +188,10 @@ static inline const char *hwp_place_words(unsigned number)
     case HWP_BODY_PAST_END:
     case HWP_TAG_OUTSIDE:
     case HWP_LEVEL_RULE:
-        return "that record";
+    case HWP_LENGTH_WRONG:
+    case HWP_ENTRIES_WRONG:
+    case HWP_DOCINFO_LENGTH:
+        return "the record";
     case HWP_NO_ROOM:
         return "the first record that does not fit";
     case HWP_PARAGRAPH_HEADER_SHORT:
@@ -197,21 +200,16 @@ static inline const char *hwp_place_words(unsigned number)
     case HWP_MARKS_IN_PARAGRAPH:
         return "the paragraph header";
     case HWP_MISPLACED:
-        return "that record, or the first below it";
-    case HWP_LENGTH_WRONG:
-    case HWP_ENTRIES_WRONG:
-        return "that record";
+        return "the record, or the first below it";
     case HWP_TEXT_RULE:
         return "the text record";
     case HWP_FIELD_HEADER_SHORT:
     case HWP_FIELD_NOT_PLAIN:
         return "the control header of the field";
     case HWP_FIELD_TWICE:
-        return "the control header of the second";
+        return "the control header of the second field";
     case HWP_DOCINFO_RECORD:
         return "the record too many or not at level 0, or 0 where one is lacking";
-    case HWP_DOCINFO_LENGTH:
-        return "that record";
     case HWP_COUNT_UNMATCHED:
         return "record 17";
     default:

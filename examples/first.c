@@ -1,0 +1,20 @@
+/* Puts 0.48 into the field 2002 of the section on standard input, and the sheet on standard output. */
+#include <stdio.h>
+
+#include "hwp.h"
+
+int main(void)
+{
+    static uint8_t section[65536], sheet[65536 + 8 + 4];
+    const uint8_t value[8] = {'0', 0, '.', 0, '4', 0, '8', 0}; /* two bytes for each unit, the lower first */
+    size_t length = fread(section, 1, sizeof section, stdin);
+
+    uint64_t answer = hwp_fill(section, length, 2002, value, sizeof value, sheet, sizeof sheet);
+    if (hwp_number(answer) != HWP_ACCEPTED) {
+        fprintf(stderr, "refused %u at %lu: %s\n", hwp_number(answer), (unsigned long)hwp_place(answer),
+                hwp_words(hwp_number(answer)));
+        return 1;
+    }
+    fwrite(sheet, 1, hwp_place(answer), stdout); /* of an accepted fill the place is the sheet's length */
+    return 0;
+}
