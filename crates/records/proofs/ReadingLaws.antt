@@ -46,11 +46,11 @@ word-parts w = omega arith
 
 -- ---- lengths
 
-header-short : (tag level n : ℕ) → n < 4095 → headerOf tag level n ≡ bytesOf 4 (headerWord tag level n)
+pub header-short : (tag level n : ℕ) → n < 4095 → headerOf tag level n ≡ bytesOf 4 (headerWord tag level n)
 unfolding headerOf
 header-short tag level n h = simp (lt-ltb n 4095 h)
 
-header-long : (tag level n : ℕ) → 4095 ≤ n → headerOf tag level n ≡ bytesOf 4 (headerWord tag level 4095) ++ bytesOf 4 n
+pub header-long : (tag level n : ℕ) → 4095 ≤ n → headerOf tag level n ≡ bytesOf 4 (headerWord tag level 4095) ++ bytesOf 4 n
 unfolding headerOf
 header-long tag level n h = simp (le-ltb n 4095 h)
 

@@ -95,7 +95,7 @@ pub fn refused(fault: Fault, place: usize) -> Answer
 }
 
 // The lowest 28 bits are what a place has in the host's number; no place of ours needs more.
-fn bits(place: usize) -> u64
+pub fn bits(place: usize) -> u64
     ensures { λ r. ⌜ (r ≡ placeBits place) × (r < 268435456) ⌝ }
 {
     if 268435455 < place {

@@ -8,6 +8,7 @@ pub use fault::Answer;
 pub use fault::Fault;
 pub use fault::Offset;
 pub use fault::Refusal;
+pub use fault::bits;
 pub use fault::refused;
 pub use header::Front;
 pub use header::Header;

@@ -1,14 +1,13 @@
 -- The judgement of a whole text, step by step. Assumes nothing.
-use Prim.Native.Nat.{ℕ, zero, suc, _+_, _≤_, _<_}
+use Prim.Native.Nat.{ℕ, _+_, _≤_, _<_}
 use native.Mathlib.Omega.{arith}
 use native.Mathlib.Nat.{add-assoc}
-use mathlib.Core.Path.{_≡_, refl, sym, ap, _∙_}
-use mathlib.Core.Option.{none, some}
+use mathlib.Core.Path.{_≡_, refl, sym, _∙_}
+use mathlib.Core.Option.{some}
 use mathlib.Core.List.{List, [], _∷_}
 use lib.ListN.{length}
-use Rattle.text.specs.Walk.{Token, width, tokens, tokensAt, isExtended, extendedIn, extendedCount, faultAt, textFault}
+use Rattle.text.specs.Walk.{Token, tokens, tokensAt, isExtended, extendedIn, extendedCount, faultAt, textFault}
 use Rattle.text.specs.Answers.{place, verdict, judged}
-use Rattle.text.specs.declared.Class.{Class}
 use Rattle.text.specs.declared.Class.the-variants.{Character, Inline, Extended}
 use Rattle.text.specs.declared.Standing.{Standing}
 use Rattle.text.specs.declared.Standing.the-variants.{Ordinary, Control}
@@ -32,11 +31,15 @@ pub at-most-one : (s : Standing) → isExtended s ≤ 1
 at-most-one (Ordinary u) = omega arith
 at-most-one (Control c) = elim (c .class) as (λ k. (elim k [ Character ↦ 0 | Inline ↦ 0 | Extended ↦ 1 ]) ≤ 1) [ Character ↦ omega arith | Inline ↦ omega arith | Extended ↦ omega arith ]
 
-pub walked-on : {us : List ℕ} {p k q : ℕ} {s : Standing} → Walked us p k → Onward us p s q → Walked us q (k + isExtended s)
+-- the controls met so far, and those from the next token on
+met : (k : ℕ) (t : Token) (ts : List Token) → k + extendedIn (t ∷ ts) ≡ k + isExtended (t .what) + extendedIn ts
 unfolding extendedIn
+met k t ts = sym (add-assoc k (isExtended (t .what)) (extendedIn ts))
+
+pub walked-on : {us : List ℕ} {p k q : ℕ} {s : Standing} → Walked us p k → Onward us p s q → Walked us q (k + isExtended s)
 walked-on {us} {p} {k} {q} {s} w o =
     record {
-      whole = w .whole ∙ rw (o .fault, o .tokens, ← (add-assoc k (isExtended s) (extendedIn (tokensAt us q))));
+      whole = w .whole ∙ rw (o .fault, o .tokens, met k (record { at = p; what = s }) (tokensAt us q));
       within = o .fits;
       few = omega (arith, at-most-one s, w .few, o .rises);
     }

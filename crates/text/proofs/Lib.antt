@@ -5,3 +5,4 @@ pub mod WalkLaws
 pub mod StepLaws
 pub mod JudgeLaws
 pub mod SoundLaws
+pub mod PartLaws

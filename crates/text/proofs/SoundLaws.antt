@@ -1,17 +1,15 @@
 -- A text has no fault exactly when it is sound. Assumes nothing.
-use Prim.Native.Nat.{ℕ, zero, suc, _+_, _-_, _≤_, _<_}
+use Prim.Native.Nat.{ℕ, zero, suc, _+_, _-_, _<_}
 use native.Mathlib.Omega.{arith}
 use mathlib.Core.Path.{_≡_, refl, sym, ap, _∙_}
 use mathlib.Core.Logic.{_⊎_, inl, inr, _↔_}
-use mathlib.Core.Option.{Option, none, some}
+use mathlib.Core.Option.{none}
 use mathlib.Core.List.{List, [], _∷_, _++_}
-use lib.ListN.{length, getD, take, drop, length-append, length-drop, drop-of-length-le}
+use lib.ListN.{length, getD, take, drop, length-drop}
 use lib.Seq.{split-at, length-take-le, drop-at, drop-drop, getD-at}
 use Rattle.text.specs.Walk.{among, classOf, what, width, Front, stands, broken, over, frontOf, front, fault, faultOr, textFault, Sound, ending, single, eight}
-use Rattle.text.specs.declared.Standing.{Standing}
-use Rattle.text.proofs.Cases.{lt-or}
 use Rattle.text.proofs.TableLaws.{width-or}
-use Rattle.text.proofs.WalkLaws.{Stood, stood-front, front-stood, front-left, width-pos}
+use Rattle.text.proofs.WalkLaws.{Stands, stands-front, front-stands, front-left, width-pos}
 
 pub sound-some : {us : List ℕ} → Sound us → 0 < length us
 sound-some ending = omega arith
@@ -20,7 +18,7 @@ sound-some (eight six w l s) = omega arith
 
 -- ---- a sound text by its first unit
 
--- it begins with whole token, not a 13, and goes on behind it
+-- a whole token that is no 13, and a sound text behind it
 pub record Begins (u : ℕ) (us : List ℕ) : Type 0 where
   pub not-0 : u ≡ 0 → ⊥
   pub not-13 : u ≡ 13 → ⊥
@@ -71,12 +69,12 @@ rolled u us b = elim (width-or (what u)) [
 
 -- ---- no fault
 
-drop-behind : (n u : ℕ) (us : List ℕ) → 0 < n → drop n (u ∷ us) ≡ drop (n - 1) us
+pub drop-behind : (n u : ℕ) (us : List ℕ) → 0 < n → drop n (u ∷ us) ≡ drop (n - 1) us
 drop-behind zero u us h = absurd (omega arith)
 drop-behind (suc n) u us h = let e : suc n - 1 ≡ n = omega arith in rw e
 
-begins-stood : (u : ℕ) (us : List ℕ) → Begins u us → Stood u (width (what u)) (suc (length us)) (getD (u ∷ us) (width (what u) - 1) 0)
-begins-stood u us b =
+begins-stands : (u : ℕ) (us : List ℕ) → Begins u us → Stands u us
+begins-stands u us b =
     let l : width (what u) < suc (length us) = omega (arith, simp length-drop at (sound-some (b .rest))) in
     record { known = b .not-0; whole = omega arith; closed = b .closed; ends = inr (b .not-13, l) }
 
@@ -93,7 +91,7 @@ sound-fault p zero (u ∷ us) s = go (unrolled u us s) (sound-fault (p + 1) (wid
         → (Sound (drop (width (what u) - 1) us) → fault (p + 1) (width (what u) - 1) us ≡ none) → fault p 0 (u ∷ us) ≡ none
     go (inl e) on = last-fault p u us (e .0) (e .1)
     go (inr b) on =
-        rw (stood-front u _ _ _ (begins-stood u us b)) (on (rw (drop-behind (width (what u)) u us (width-pos (what u))) at (b .rest)))
+        rw (stands-front u us (begins-stands u us b)) (on (rw (drop-behind (width (what u)) u us (width-pos (what u))) at (b .rest)))
 sound-fault p (suc k) (u ∷ us) s = sound-fault (p + 1) k us s
 
 last-sound : (u : ℕ) (us : List ℕ) → u ≡ 13 → suc (length us) ≡ width (what u) → Sound (u ∷ us)
@@ -101,9 +99,8 @@ unfolding what classOf among
 last-sound u [] e h = rw e ending
 last-sound u (v ∷ us) e h = let x : suc (suc (length us)) ≡ width (what 13) = rw e at h in absurd (omega arith)
 
-stood-sound : (u : ℕ) (us : List ℕ) → Stood u (width (what u)) (suc (length us)) (getD (u ∷ us) (width (what u) - 1) 0)
-    → (width (what u) - 1 < length us → Sound (drop (width (what u) - 1) us)) → Sound (u ∷ us)
-stood-sound u us s on = go (s .ends)
+stands-sound : (u : ℕ) (us : List ℕ) → Stands u us → (width (what u) - 1 < length us → Sound (drop (width (what u) - 1) us)) → Sound (u ∷ us)
+stands-sound u us s on = go (s .ends)
   where
     go : ((u ≡ 13) × (suc (length us) ≡ width (what u))) ⊎ ((u ≡ 13 → ⊥) × (width (what u) < suc (length us))) → Sound (u ∷ us)
     go (inl e) = last-sound u us (e .0) (e .1)
@@ -122,9 +119,9 @@ fault-sound p zero (u ∷ us) e h = go (front (u ∷ us)) refl e (fault-sound (p
   where
     go : (f : Front) → front (u ∷ us) ≡ f → faultOr p f (fault (p + 1) (width (what u) - 1) us) ≡ none
         → (fault (p + 1) (width (what u) - 1) us ≡ none → width (what u) - 1 < length us → Sound (drop (width (what u) - 1) us)) → Sound (u ∷ us)
-    go (stands s) q e on = stood-sound u us (front-stood u (width (what u)) (suc (length us)) (getD (u ∷ us) (width (what u) - 1) 0) s q .0) (on e)
+    go (stands s) q e on = stands-sound u us (front-stands u us s q .0) (on e)
     go (broken d) q e on = absurd (let z : _≡_ {A = ℕ} 0 1 = cc in omega arith)
-    go over q e on = absurd (front-left u (width (what u)) (suc (length us)) (getD (u ∷ us) (width (what u) - 1) 0) q)
+    go over q e on = absurd (front-left u us q)
 fault-sound p (suc k) (u ∷ us) e h = fault-sound (p + 1) k us e (omega arith)
 
 -- the theorem

@@ -1,23 +1,22 @@
 -- The walk's clauses: what stands at a position, and the walk behind it. Assumes nothing.
 use Prim.Native.Nat.{ℕ, zero, suc, _+_, _-_, _≤_, _<_}
 use native.Mathlib.Omega.{arith}
-use mathlib.Core.Path.{_≡_, refl, sym, ap, _∙_}
+use mathlib.Core.Path.{_≡_, refl, ap}
 use mathlib.Core.Logic.{_⊎_, inl, inr}
 use mathlib.Core.Bool.{Bool, true, false, cond, not}
-use mathlib.Core.Option.{Option, none, some}
+use mathlib.Core.Option.{none, some}
 use mathlib.Core.List.{List, [], _∷_}
 use lib.Dec.{ltb, eqb}
-use lib.ListN.{length, getD, drop, length-drop, drop-of-length-le}
+use lib.ListN.{length, getD, drop, length-drop}
 use lib.Seq.{drop-cons, drop-drop, drop-nil, getD-drop}
-use borrow.Author.Tests.{lt-ltb, le-ltb, eq-eqb, ne-eqb, ltb-false, eqb-true, eqb-false, not-false}
-use Rattle.text.specs.Walk.{what, width, Front, stands, broken, over, frontOf, front, Token, walk, tokensAt, fault, faultOr, faultAt}
+use borrow.Author.Tests.{le-ltb, eq-eqb, ne-eqb, ltb-false, eqb-true, eqb-false, not-false}
+use Rattle.text.specs.Walk.{what, width, Front, stands, broken, over, frontOf, front, Token, walk, tokensAt, fault, faultAt}
 use Rattle.text.specs.Answers.{place, stepOf, stepAt}
 use Rattle.text.specs.declared.Standing.{Standing}
 use Rattle.text.specs.declared.Position.{Position}
 use Rattle.text.specs.declared.Cursor.{Cursor}
-use Rattle.text.specs.declared.Step.{Step}
-use Rattle.text.specs.declared.Step.the-variants.{Stands, Broken, End}
-use Rattle.text.proofs.Cases.{lt-or, eq-or}
+use Rattle.text.specs.declared.Step.the-variants as step
+use Rattle.text.proofs.Cases.{eq-or}
 use Rattle.text.proofs.TableLaws.{width-or}
 
 -- ---- what stands at the front
@@ -41,7 +40,7 @@ pub record Stood (u n left last : ℕ) : Type 0 where
   pub closed : last ≡ u
   pub ends : ((u ≡ 13) × (left ≡ n)) ⊎ ((u ≡ 13 → ⊥) × (n < left))
 
-pub stood-front : (u n left last : ℕ) → Stood u n left last → frontOf u n left last ≡ stands (what u)
+stood-front : (u n left last : ℕ) → Stood u n left last → frontOf u n left last ≡ stands (what u)
 unfolding frontOf
 stood-front u n left last h = rw (ne-eqb u 0 (h .known), le-ltb left n (h .whole), eq-eqb last u (h .closed)) (go (h .ends))
   where
@@ -54,7 +53,7 @@ passes : (t : Bool) (d : ℕ) (rest : Front) (s : Standing) → cond t (broken d
 passes true d rest s e = absurd (let z : _≡_ {A = ℕ} 0 1 = cc in omega arith)
 passes false d rest s e = (refl, e)
 
-pub front-stood : (u n left last : ℕ) (s : Standing) → frontOf u n left last ≡ stands s → Stood u n left last × (s ≡ what u)
+front-stood : (u n left last : ℕ) (s : Standing) → frontOf u n left last ≡ stands s → Stood u n left last × (s ≡ what u)
 unfolding frontOf
 front-stood u n left last s e =
     let a = passes (eqb u 0) 0 _ s e in
@@ -81,7 +80,7 @@ either {ℓ κ} : {A : Type ℓ} (P : A → Type κ) (t : Bool) {x y : A} → P 
 either P true a b = a
 either P false a b = b
 
-abbrev pub Left : Front → Type 0
+abbrev Left : Front → Type 0
 Left f = f ≡ over → ⊥
 
 broken-left : (d : ℕ) → Left (broken d)
@@ -90,16 +89,33 @@ broken-left d e = let z : _≡_ {A = ℕ} 0 1 = cc in omega arith
 stands-left : (s : Standing) → Left (stands s)
 stands-left s e = let z : _≡_ {A = ℕ} 0 1 = cc in omega arith
 
--- where a unit is left, the text is not over
-pub front-left : (u n left last : ℕ) → Left (frontOf u n left last)
+some-left : (u n left last : ℕ) → Left (frontOf u n left last)
 unfolding frontOf
-front-left u n left last =
+some-left u n left last =
     either Left (eqb u 0) (broken-left 0)
     (either Left (ltb left n) (broken-left 0)
     (either Left (not (eqb last u)) (broken-left (n - 1))
     (either Left (eqb left n)
     (either Left (eqb u 13) (stands-left (what u)) (broken-left n))
     (either Left (eqb u 13) (broken-left 0) (stands-left (what u))))))
+
+-- the same of a unit with the units behind it
+
+abbrev pub Stands : ℕ → List ℕ → Type 0
+Stands u us = Stood u (width (what u)) (suc (length us)) (getD (u ∷ us) (width (what u) - 1) 0)
+
+pub stands-front : (u : ℕ) (us : List ℕ) → Stands u us → front (u ∷ us) ≡ stands (what u)
+unfolding front
+stands-front u us = stood-front u (width (what u)) (suc (length us)) (getD (u ∷ us) (width (what u) - 1) 0)
+
+pub front-stands : (u : ℕ) (us : List ℕ) (s : Standing) → front (u ∷ us) ≡ stands s → Stands u us × (s ≡ what u)
+unfolding front
+front-stands u us = front-stood u (width (what u)) (suc (length us)) (getD (u ∷ us) (width (what u) - 1) 0)
+
+-- where a unit is left, the text is not over
+pub front-left : (u : ℕ) (us : List ℕ) → front (u ∷ us) ≡ over → ⊥
+unfolding front
+front-left u us = some-left u (width (what u)) (suc (length us)) (getD (u ∷ us) (width (what u) - 1) 0)
 
 -- ---- the walk behind a token
 
@@ -137,15 +153,17 @@ pub record Passed (p : ℕ) (us : List ℕ) (s : Standing) : Type 0 where
 pub passed : (p : ℕ) (us : List ℕ) (s : Standing) → front us ≡ stands s → Passed p us s
 unfolding front walk fault
 passed p [] s e = absurd (let z : _≡_ {A = ℕ} 0 1 = cc in omega arith)
-passed p (u ∷ us) s e = go (front-stood u (width (what u)) (suc (length us)) _ s e)
+passed p (u ∷ us) s e = go (front-stands u us s e)
   where
-    go : Stood u (width (what u)) (suc (length us)) (getD (u ∷ us) (width (what u) - 1) 0) × (s ≡ what u) → Passed p (u ∷ us) s
-    go t = rw (t .1) (record {
-      wide = width-pos (what u);
-      fits = t .0 .whole;
-      tokens = ap (λ (r : List Token). record { at = p; what = what u } ∷ r) (behind walk walk-skip p u (width (what u)) us (width-pos (what u)));
-      fault = rw (stood-front u (width (what u)) (suc (length us)) _ (t .0)) (behind fault fault-skip p u (width (what u)) us (width-pos (what u)));
-    })
+    go : Stands u us × (s ≡ what u) → Passed p (u ∷ us) s
+    go t =
+        rw (t .1)
+        (record {
+          wide = width-pos (what u);
+          fits = t .0 .whole;
+          tokens = ap (λ (r : List Token). record { at = p; what = what u } ∷ r) (behind walk walk-skip p u (width (what u)) us (width-pos (what u)));
+          fault = rw (stands-front u us (t .0)) (behind fault fault-skip p u (width (what u)) us (width-pos (what u)));
+        })
 
 -- ---- by the steps of the code
 
@@ -169,12 +187,12 @@ onward us p s e =
       fault = rw d at (t .fault);
     }
 
-pub step-stands : (us : List ℕ) (p : ℕ) (a : Position) (s : Standing) (c : Cursor) → stepAt us p ≡ Stands a s c
+pub step-stands : (us : List ℕ) (p : ℕ) (a : Position) (s : Standing) (c : Cursor) → stepAt us p ≡ step.Stands a s c
     → (a ≡ place p) × Onward us p s (c .at .0)
 unfolding stepAt
 step-stands us p a s c e = go (front (drop p us)) refl e
   where
-    go : (f : Front) → front (drop p us) ≡ f → stepOf p f ≡ Stands a s c → (a ≡ place p) × Onward us p s (c .at .0)
+    go : (f : Front) → front (drop p us) ≡ f → stepOf p f ≡ step.Stands a s c → (a ≡ place p) × Onward us p s (c .at .0)
     go (stands t) h q =
         let x : t ≡ s = cc in
         let y : c ≡ record { at = place (p + width t) } = cc in
@@ -187,16 +205,16 @@ unfolding front fault
 fault-front p d [] e = absurd (let z : _≡_ {A = ℕ} 0 1 = cc in omega arith)
 fault-front p d (u ∷ us) e = rw e
 
-pub step-broken : (us : List ℕ) (p : ℕ) (q : Position) → stepAt us p ≡ Broken q → faultAt us p ≡ some (q .0)
+pub step-broken : (us : List ℕ) (p : ℕ) (q : Position) → stepAt us p ≡ step.Broken q → faultAt us p ≡ some (q .0)
 unfolding stepAt
 step-broken us p q e = go (front (drop p us)) refl e
   where
-    go : (f : Front) → front (drop p us) ≡ f → stepOf p f ≡ Broken q → faultAt us p ≡ some (q .0)
+    go : (f : Front) → front (drop p us) ≡ f → stepOf p f ≡ step.Broken q → faultAt us p ≡ some (q .0)
     go (stands t) h r = absurd (let z : _≡_ {A = ℕ} 0 1 = cc in omega arith)
     go (broken d) h r = let x : q ≡ place (p + d) = cc in rw x (fault-front p d (drop p us) h)
     go over h r = absurd (let z : _≡_ {A = ℕ} 0 1 = cc in omega arith)
 
-over-of : (p : ℕ) (f : Front) → stepOf p f ≡ End → f ≡ over
+over-of : (p : ℕ) (f : Front) → stepOf p f ≡ step.End → f ≡ over
 over-of p (stands s) e = absurd (let z : _≡_ {A = ℕ} 0 1 = cc in omega arith)
 over-of p (broken d) e = absurd (let z : _≡_ {A = ℕ} 0 1 = cc in omega arith)
 over-of p over e = refl
@@ -206,10 +224,10 @@ pub record Ended (us : List ℕ) (p : ℕ) : Type 0 where
   pub tokens : tokensAt us p ≡ []
   pub fault : faultAt us p ≡ none
 
-pub step-end : (us : List ℕ) (p : ℕ) → stepAt us p ≡ End → Ended us p
+pub step-end : (us : List ℕ) (p : ℕ) → stepAt us p ≡ step.End → Ended us p
 unfolding stepAt front walk fault
 step-end us p e = go (drop p us) refl e
   where
-    go : (l : List ℕ) → drop p us ≡ l → stepOf p (front l) ≡ End → Ended us p
+    go : (l : List ℕ) → drop p us ≡ l → stepOf p (front l) ≡ step.End → Ended us p
     go [] d q = record { tokens = rw d; fault = rw d }
-    go (u ∷ l) d q = absurd (front-left u _ _ _ (over-of p (front (u ∷ l)) q))
+    go (u ∷ l) d q = absurd (front-left u l (over-of p (front (u ∷ l)) q))

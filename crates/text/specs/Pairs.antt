@@ -1,7 +1,7 @@
 -- The pairs that document 01 marks P and that speak of texts, as one table that antt computes.
 use Prim.Native.Nat.{ℕ}
 use mathlib.Core.List.{List, [], _∷_, _++_}
-use mathlib.Core.Bool.{Bool, true, false, _&&_}
+use mathlib.Core.Bool.{Bool, true, _&&_}
 use lib.Dec.{T, eqb}
 use lib.ListN.{length}
 use Rattle.numbers.specs.Little.{bytesOf}

@@ -1,7 +1,7 @@
 -- The walk over a text's units (document 01, 'Text units').
-use Prim.Native.Nat.{ℕ, zero, suc, _+_, _-_}
+use Prim.Native.Nat.{ℕ, zero, suc, _+_, _-_, _≤_}
 use mathlib.Core.Path.{_≡_}
-use mathlib.Core.Bool.{Bool, true, false, cond, _||_, not}
+use mathlib.Core.Bool.{Bool, false, cond, _||_, not}
 use mathlib.Core.Option.{Option, none, some}
 use mathlib.Core.List.{List, [], _∷_, _++_}
 use lib.Dec.{ltb, eqb}
@@ -14,16 +14,18 @@ use Rattle.text.specs.declared.Standing.the-variants.{Ordinary, Control}
 
 -- ---- table 6
 
+-- whether a code is in a list of codes
 unfoldable pub among : ℕ → List ℕ → Bool
 among u [] = false
 among u (c ∷ cs) = eqb u c || among u cs
 
--- the class of a unit below 32
+-- the class of a unit below 32: extended, inline, or one position
 unfoldable pub classOf : ℕ → Class
 classOf u =
     cond (among u (1 ∷ 2 ∷ 3 ∷ 11 ∷ 12 ∷ 14 ∷ 15 ∷ 16 ∷ 17 ∷ 18 ∷ 21 ∷ 22 ∷ 23 ∷ [])) Extended
     (cond (among u (4 ∷ 5 ∷ 6 ∷ 7 ∷ 8 ∷ 9 ∷ 19 ∷ 20 ∷ [])) Inline Character)
 
+-- the control that a unit below 32 begins, with its class and code
 abbrev pub control : ℕ → declared.Control
 control u = record { class = classOf u; code = u }
 
@@ -31,6 +33,7 @@ control u = record { class = classOf u; code = u }
 unfoldable pub what : ℕ → Standing
 what u = cond (ltb u 32) (Control (control u)) (Ordinary u)
 
+-- an inline or an extended control takes eight positions
 abbrev pub classWidth : Class → ℕ
 classWidth Character = 1
 classWidth Inline = 8
@@ -60,13 +63,14 @@ frontOf u n left last =
     (cond (eqb u 13) (stands (what u)) (broken n))
     (cond (eqb u 13) (broken 0) (stands (what u))))))
 
+-- the same, read off the units
 unfoldable pub front : List ℕ → Front
 front [] = over
 front (u ∷ us) = frontOf u (width (what u)) (suc (length us)) (getD (u ∷ us) (width (what u) - 1) 0)
 
 -- ---- the whole text
 
--- where a step stood, and what stands there
+-- where a step stood, and what stands there ('each step reports')
 pub record Token : Type 0 where
   pub at : ℕ
   pub what : Standing
@@ -77,6 +81,7 @@ walk p k [] = []
 walk p zero (u ∷ us) = record { at = p; what = what u } ∷ walk (p + 1) (width (what u) - 1) us
 walk p (suc k) (u ∷ us) = walk (p + 1) k us
 
+-- those of a whole text
 unfoldable pub tokens : List ℕ → List Token
 tokens us = walk 0 0 us
 
@@ -84,15 +89,22 @@ tokens us = walk 0 0 us
 abbrev pub tokensAt : List ℕ → ℕ → List Token
 tokensAt us p = walk p 0 (drop p us)
 
+-- units from 32 up, as a value holds them
+abbrev pub AllOrdinary : List ℕ → Type 0
+AllOrdinary [] = Unit {0}
+AllOrdinary (u ∷ us) = (32 ≤ u) × AllOrdinary us
+
+-- 1 of an extended control, else 0
 abbrev pub isExtended : Standing → ℕ
 isExtended (Ordinary u) = 0
 isExtended (Control c) = elim (c .class) [ Character ↦ 0 | Inline ↦ 0 | Extended ↦ 1 ]
 
+-- how many extended controls are among tokens
 unfoldable pub extendedIn : List Token → ℕ
 extendedIn [] = 0
 extendedIn (t ∷ ts) = isExtended (t .what) + extendedIn ts
 
--- how many extended controls a text has
+-- how many a text has; each owns a control header
 unfoldable pub extendedCount : List ℕ → ℕ
 extendedCount us = extendedIn (tokens us)
 
@@ -108,10 +120,11 @@ fault p k [] = none
 fault p zero (u ∷ us) = faultOr p (front (u ∷ us)) (fault (p + 1) (width (what u) - 1) us)
 fault p (suc k) (u ∷ us) = fault (p + 1) k us
 
+-- the same from a position on where a token begins
 abbrev pub faultAt : List ℕ → ℕ → Option ℕ
 faultAt us p = fault p 0 (drop p us)
 
--- the same of a whole text; where there is no unit, 13 is lacking
+-- that of a whole text; where there is no unit, 13 is lacking
 unfoldable pub textFault : List ℕ → Option ℕ
 textFault [] = some 0
 textFault (u ∷ us) = fault 0 0 (u ∷ us)

@@ -16,11 +16,13 @@ pub enum Class {
     Extended,
 }
 
+// A control, with its class and code.
 pub struct Control {
     pub class: Class,
     pub code: u32,
 }
 
+// What stands at a position.
 pub enum Standing {
     Ordinary(u32),
     Control(Control),
@@ -60,7 +62,7 @@ fn unit(text: &[u8], p: usize) -> u32
     }
 }
 
-// Table 6.
+// Table 6 by the code: X extended, I inline, C one position.
 fn class_of(code: usize) -> Class
     requires { ⌜ code < 32 ⌝ }
     ensures { λ r. ⌜ r ≡ classOf code ⌝ }
@@ -104,6 +106,7 @@ fn positions(what: Standing) -> usize
 }
 
 impl Cursor {
+    // The walk at the start of a text.
     pub fn start() -> Cursor
         ensures { λ r. ⌜ r ≡ cursor 0 ⌝ }
     {
@@ -172,7 +175,7 @@ fn extended(what: Standing) -> usize
     }
 }
 
-// Walks a whole text.
+// Walks a whole text. One without a unit lacks its 13.
 pub fn judge(text: &[u8]) -> Judged
     ensures { λ r. ⌜ r ≡ judged (units (now (text .entry))) ⌝ }
 {

@@ -1,4 +1,4 @@
-use mathlib.Core.Path.{_∙_, ap, sym}
+use mathlib.Core.Path.{sym}
 use Rattle.text.proofs.TableLaws.{what-ordinary, what-control}
 use borrow.Author.Needs.{needs}
 use Rattle.text.proofs.begun.Statement.{statement}

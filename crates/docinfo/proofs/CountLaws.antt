@@ -1,0 +1,170 @@
+-- The laws of counts: each clause of a definition as an equation under its test. Assumes nothing.
+use Prim.Native.Nat.{ℕ, zero, suc, _+_, _-_, _*_, _≤_, _<_}
+use native.Mathlib.Omega.{arith}
+use native.Mathlib.Numerals.{add-one}
+use native.Mathlib.Nat.{zero-add, add-zero, sub-zero, mul-suc}
+use mathlib.Core.Path.{_≡_, refl, sym, ap, _∙_}
+use mathlib.Core.Bool.{cond}
+use mathlib.Core.Option.{Option, none, some}
+use mathlib.Core.List.{List, [], _∷_}
+use lib.Dec.{eqb}
+use lib.ListN.{length, getD, take, drop, drop-of-length-le}
+use lib.Seq.{drop-cons}
+use borrow.Author.Tests.{le-leb, lt-leb, eq-eqb, ne-eqb}
+use Rattle.numbers.specs.Little.{little, span, Bytes}
+use Rattle.numbers.proofs.LittleLaws.{bytes-drop, little-small, part-rest}
+use Rattle.records.specs.Records.{Rec}
+use Rattle.docinfo.specs.Children.{tally}
+use Rattle.docinfo.specs.declared.counts.Group.{Group}
+use Rattle.docinfo.specs.declared.counts.Verdict.{Verdict}
+use Rattle.docinfo.specs.declared.counts.Verdict.the-variants as W
+use Rattle.docinfo.specs.Counts.{countAt, negative, negativeFrom, sumFrom, groups, groupAt, unmatched, orElse, countFault, verdictOf}
+
+-- ---- the bits of a count
+
+module _ (body : List ℕ) (i : ℕ) where
+  pub count-short : length body < 2 * i → (0 ≡ countAt 2 body i) × (0 < 65536)
+  unfolding countAt little
+  count-short h =
+      let l : length body ≤ 2 * i = omega arith in
+      (sym (ap (little 2) (drop-of-length-le body l)), omega arith)
+
+  pub count-whole : (x : ℕ) → Bytes body → x ≡ little 2 (take (length body - 2 * i) (drop (2 * i) body)) → (x ≡ countAt 2 body i) × (x < 65536)
+  unfolding countAt span
+  count-whole x bs e =
+      let f : x ≡ little 2 (drop (2 * i) body) = rw part-rest at e in
+      (f, omega (arith, little-small 2 (drop (2 * i) body) (bytes-drop (2 * i) body bs)))
+
+-- ---- negative counts: those from i on of n
+
+module _ (w : ℕ) (body : List ℕ) (n i : ℕ) where
+  pub negative-end : n ≤ i → negativeFrom w body i (n - i) ≡ none
+  unfolding negativeFrom
+  negative-end h = let e : n - i ≡ 0 = omega arith in rw e refl
+
+  pub negative-here : i < n → span w ≤ 2 * countAt w body i → negativeFrom w body i (n - i) ≡ some i
+  unfolding negativeFrom negative
+  negative-here l h =
+      let e : n - i ≡ suc (n - (i + 1)) = omega arith in
+      rw e (simp (le-leb (span w) (2 * countAt w body i) h))
+
+  pub negative-next : i < n → 2 * countAt w body i < span w → negativeFrom w body i (n - i) ≡ negativeFrom w body (i + 1) (n - (i + 1))
+  unfolding negativeFrom negative
+  negative-next l h =
+      let e : n - i ≡ suc (n - (i + 1)) = omega arith in
+      rw e (simp (lt-leb (span w) (2 * countAt w body i) h))
+
+-- where the search for a negative count stands: those before i of n are not
+pub record Negating (w : ℕ) (body : List ℕ) (n i : ℕ) : Type 0 where
+  pub inside : i ≤ n
+  pub left : negativeFrom w body 0 n ≡ negativeFrom w body i (n - i)
+
+-- ---- sums: where a sum of n counts from i on stands, k of which are summed, and each is below `cap`
+
+pub record Summing (w : ℕ) (body : List ℕ) (cap i n sum k : ℕ) : Type 0 where
+  pub inside : k ≤ n
+  pub small : sum ≤ cap * k
+  pub left : sumFrom w body i n ≡ sum + sumFrom w body (i + k) (n - k)
+
+module _ (w : ℕ) (body : List ℕ) (cap i n : ℕ) where
+  pub summing-start : Summing w body cap i n 0 0
+  summing-start = record { inside = omega arith; small = omega arith; left = sym (simp (zero-add, add-zero, sub-zero)) }
+
+  pub summing-next : {sum k : ℕ} → Summing w body cap i n sum k → k < n → (x : ℕ) → x ≡ countAt w body (i + k) → x < cap
+      → Summing w body cap i n (sum + x) (k + 1)
+  unfolding sumFrom
+  summing-next {sum} {k} m h x e l =
+      let one : n - k ≡ suc (n - (k + 1)) = omega arith in
+      let on : i + k + 1 ≡ i + (k + 1) = omega arith in
+      let step : sumFrom w body (i + k) (n - k) ≡ countAt w body (i + k) + sumFrom w body (i + (k + 1)) (n - (k + 1)) = rw one (simp on) in
+      let more : cap * (k + 1) ≡ cap * k + cap = simp (add-one, mul-suc) in
+      record { inside = omega arith; small = omega (arith, m .small); left = omega (arith, m .left, step) }
+
+  pub summing-end : {sum k : ℕ} → Summing w body cap i n sum k → n ≤ k → sum ≡ sumFrom w body i n
+  unfolding sumFrom
+  summing-end {sum} {k} m h =
+      let none-left : n - k ≡ 0 = omega arith in
+      let e : sumFrom w body (i + k) (n - k) ≡ 0 = rw none-left refl in
+      omega (arith, m .left)
+
+-- ---- the table
+
+rows : length groups ≡ 10
+unfolding groups
+rows = refl
+
+module _ (i : ℕ) (h : i < 10) where
+  pub group-next : drop i groups ≡ groupAt i ∷ drop (i + 1) groups
+  unfolding groupAt
+  group-next = rw add-one (drop-cons groups i _ (omega (arith, rows)))
+
+pub groups-end : (i : ℕ) → 10 ≤ i → drop i groups ≡ []
+groups-end i h =
+    let l : length groups ≤ i = omega (arith, rows) in
+    drop-of-length-le groups l
+
+-- every group lies within the sixteen counts
+abbrev Within : List Group → Type 0
+Within [] = Unit {0}
+Within (g ∷ gs) = (g .first + g .many ≤ 16) × Within gs
+
+within-at : (gs : List Group) (d : Group) (i : ℕ) → Within gs → d .first + d .many ≤ 16 → getD gs i d .first + getD gs i d .many ≤ 16
+within-at [] d i w h = h
+within-at (g ∷ gs) d zero w h = w .0
+within-at (g ∷ gs) d (suc i) w h = within-at gs d i (w .1) h
+
+all-within : Within groups
+unfolding groups
+all-within = omega arith
+
+pub group-within : (i : ℕ) → groupAt i .first + groupAt i .many ≤ 16
+unfolding groupAt
+group-within i = within-at groups _ i all-within (omega arith)
+
+-- where the matching stands: the groups before row i are matched
+pub record Matching (w : ℕ) (body : List ℕ) (kids : List Rec) (i : ℕ) : Type 0 where
+  pub inside : i ≤ 10
+  pub left : unmatched w body kids groups ≡ unmatched w body kids (drop i groups)
+
+module _ {w : ℕ} {body : List ℕ} {kids : List Rec} {i : ℕ} (k : Matching w body kids i) where
+  pub matching-end : 10 ≤ i → W.Sound ≡ verdictOf (unmatched w body kids groups)
+  unfolding unmatched
+  matching-end h = sym (ap verdictOf (k .left ∙ ap (unmatched w body kids) (groups-end i h)))
+
+  module _ (h : i < 10) {g : Group} (e : g ≡ groupAt i) {sum count : ℕ} (p : sum ≡ sumFrom w body (g .first) (g .many)) (q : count ≡ tally (g .tag) kids) where
+    row-next : unmatched w body kids (drop i groups)
+        ≡ cond (eqb (sumFrom w body (g .first) (g .many)) (tally (g .tag) kids)) (unmatched w body kids (drop (i + 1) groups)) (some (g .first))
+    unfolding unmatched
+    row-next = rw (group-next i h, ← e) refl
+
+    pub matching-here : (sum ≡ count → ⊥) → W.Fault (g .first) ≡ verdictOf (unmatched w body kids groups)
+    matching-here z = simp (k .left, row-next, ne-eqb (sumFrom w body (g .first) (g .many)) (tally (g .tag) kids) (λ r. z (p ∙ r ∙ sym q)))
+
+    pub matching-next : sum ≡ count → Matching w body kids (i + 1)
+    matching-next z =
+        record {
+          inside = omega arith;
+          left = k .left ∙ row-next ∙ simp (eq-eqb (sumFrom w body (g .first) (g .many)) (tally (g .tag) kids) (sym p ∙ z ∙ q));
+        }
+
+-- ---- both together
+
+module _ (w : ℕ) (body : List ℕ) (kids : List Rec) where
+  fault-by : (o y : Option ℕ) (v : Verdict) → v ≡ verdictOf o → v ≡ W.Sound → verdictOf y ≡ verdictOf (orElse o y)
+  unfolding orElse
+  fault-by none y v e z = refl
+  fault-by (some i) y v e z = absurd (let b : _≡_ {A = ℕ} 0 1 = cc in omega arith)
+
+  found-by : (o y : Option ℕ) (i : ℕ) → W.Fault i ≡ verdictOf o → W.Fault i ≡ verdictOf (orElse o y)
+  unfolding orElse
+  found-by none y i e = absurd (let b : _≡_ {A = ℕ} 0 1 = cc in omega arith)
+  found-by (some j) y i e = e
+
+  pub fault-negative : (i : ℕ) → W.Fault i ≡ verdictOf (negativeFrom w body 0 16) → W.Fault i ≡ verdictOf (countFault w body kids)
+  unfolding countFault
+  fault-negative i e = found-by (negativeFrom w body 0 16) (unmatched w body kids groups) i e
+
+  pub fault-unmatched : (v : Verdict) → v ≡ verdictOf (negativeFrom w body 0 16) → v ≡ W.Sound
+      → verdictOf (unmatched w body kids groups) ≡ verdictOf (countFault w body kids)
+  unfolding countFault
+  fault-unmatched v e z = fault-by (negativeFrom w body 0 16) (unmatched w body kids groups) v e z

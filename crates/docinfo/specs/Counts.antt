@@ -1,0 +1,69 @@
+-- The counts of record 17 and what they are matched with (document 01, 'DocInfo', tables 10 and 11), over the width of a count.
+use Prim.Native.Nat.{ℕ, zero, suc, _+_, _*_}
+use mathlib.Core.Bool.{Bool, cond}
+use mathlib.Core.Option.{Option, none, some}
+use mathlib.Core.List.{List, [], _∷_}
+use lib.Dec.{leb, eqb}
+use lib.ListN.{getD, drop}
+use Rattle.numbers.specs.Little.{little, span}
+use Rattle.records.specs.Records.{Rec}
+use Rattle.docinfo.specs.Children.{tally}
+use Rattle.docinfo.specs.declared.counts.Group.{Group}
+use Rattle.docinfo.specs.declared.counts.Verdict.{Verdict}
+use Rattle.docinfo.specs.declared.counts.Verdict.the-variants as W
+
+-- the bits of count i, where each count has w bytes
+unfoldable pub countAt : ℕ → List ℕ → ℕ → ℕ
+countAt w body i = little w (drop (w * i) body)
+
+-- signed: the upper half of what w bytes can hold is negative
+unfoldable pub negative : ℕ → ℕ → Bool
+negative w x = leb (span w) (2 * x)
+
+-- the first negative count from i on, of k
+unfoldable pub negativeFrom : ℕ → List ℕ → ℕ → ℕ → Option ℕ
+negativeFrom w body i zero = none
+negativeFrom w body i (suc k) = cond (negative w (countAt w body i)) (some i) (negativeFrom w body (i + 1) k)
+
+-- the sum of k counts from i on
+unfoldable pub sumFrom : ℕ → List ℕ → ℕ → ℕ → ℕ
+sumFrom w body i zero = 0
+sumFrom w body i (suc k) = countAt w body i + sumFrom w body (i + 1) k
+
+-- how many counts record 17 has
+abbrev pub countsIn : ℕ
+countsIn = 16
+
+-- the counts from `first` on, `many` of them, sum to the number of children with the tag
+abbrev group : ℕ → ℕ → ℕ → Group
+group first many tag = record { first = first; many = many; tag = tag }
+
+-- count 0 is tag 18, counts 1 to 7 sum to tag 19, counts 8 to 14 are tags 20 to 26 in order, count 15 is tag 92
+unfoldable pub groups : List Group
+groups =
+    group 0 1 18 ∷ group 1 7 19 ∷ group 8 1 20 ∷ group 9 1 21 ∷ group 10 1 22 ∷ group 11 1 23 ∷ group 12 1 24 ∷ group 13 1 25
+    ∷ group 14 1 26 ∷ group 15 1 92 ∷ []
+
+-- the group at a row of the table
+unfoldable pub groupAt : ℕ → Group
+groupAt i = getD groups i (group 0 0 0)
+
+-- the first count of the first group that is not matched
+unfoldable pub unmatched : ℕ → List ℕ → List Rec → List Group → Option ℕ
+unmatched w body kids [] = none
+unmatched w body kids (g ∷ gs) =
+    cond (eqb (sumFrom w body (g .first) (g .many)) (tally (g .tag) kids)) (unmatched w body kids gs) (some (g .first))
+
+-- one finding, and else the other
+unfoldable pub orElse : Option ℕ → Option ℕ → Option ℕ
+orElse none y = y
+orElse (some i) y = some i
+
+-- the count at fault, if there is one: the first that is negative, else the first in a group that is not matched
+unfoldable pub countFault : ℕ → List ℕ → List Rec → Option ℕ
+countFault w body kids = orElse (negativeFrom w body 0 countsIn) (unmatched w body kids groups)
+
+-- the same as the code's answer
+abbrev pub verdictOf : Option ℕ → Verdict
+verdictOf none = W.Sound
+verdictOf (some i) = W.Fault i

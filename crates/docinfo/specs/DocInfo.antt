@@ -1,0 +1,61 @@
+-- What the DocInfo read answers (document 01, 'DocInfo', numbers 16 to 18 and 'Order').
+use Prim.Native.Nat.{ℕ}
+use mathlib.Core.Bool.{cond}
+use mathlib.Core.Option.{Option, none, some}
+use mathlib.Core.List.{List}
+use lib.Dec.{ltb, eqb}
+use lib.ListN.{length}
+use Rattle.records.specs.Records.{Rec}
+use Rattle.records.specs.Reading.{readAll}
+use Rattle.records.specs.Table.{readAnswer}
+use Rattle.records.specs.declared.fault.Fault.{Fault}
+use Rattle.records.specs.declared.fault.Fault.the-variants as F
+use Rattle.records.specs.declared.fault.Refusal.{Refusal}
+use Rattle.records.specs.declared.fault.Answer.{Answer}
+use Rattle.records.specs.declared.fault.Answer.the-variants as A
+use Rattle.docinfo.specs.Children.{children}
+use Rattle.docinfo.specs.Only.{Placed, Only, one, wrong, only}
+use Rattle.docinfo.specs.Counts.{countFault}
+
+abbrev pub faultAt : Fault → ℕ → Option Refusal
+faultAt f p = some (record { fault = f; place = record { 0 = p } })
+
+-- the children of record 17, which stands at level 0
+unfoldable pub kidsOf : Placed → List Rec
+kidsOf m = children 1 (m .behind)
+
+-- 18 at record 17, where a count is at fault
+abbrev pub countRefusal : ℕ → Option ℕ → Option Refusal
+countRefusal p none = none
+countRefusal p (some i) = faultAt F.CountUnmatched p
+
+-- 17 for record 16, 17 for record 17, 18: record 16 has 30 bytes or more, record 17 sixteen counts of two bytes
+unfoldable pub bodiesFault : Placed → Placed → Option Refusal
+bodiesFault p m =
+    cond (ltb (length (p .it .body)) 30) (faultAt F.DocInfoLength (p .at))
+    (cond (eqb (length (m .it .body)) 32) (countRefusal (m .at) (countFault 2 (m .it .body) (kidsOf m)))
+    (faultAt F.DocInfoLength (m .at)))
+
+-- 16 for record 16, 16 for record 17, and then their bodies
+unfoldable pub judged : Only → Only → Option Refusal
+judged (wrong a) y = faultAt F.DocInfoRecord a
+judged (one p) (wrong b) = faultAt F.DocInfoRecord b
+judged (one p) (one m) = bodiesFault p m
+
+-- what is wrong with the records of DocInfo, if anything
+unfoldable pub docinfoFault : List Rec → Option Refusal
+docinfoFault rs = judged (only 16 rs) (only 17 rs)
+
+-- accepted with n records, or the refusal
+abbrev pub ruled : ℕ → Option Refusal → Answer
+ruled n none = A.Accepted n
+ruled n (some r) = A.Refused r
+
+-- an acceptance by read is judged further
+abbrev pub further : Answer → List Rec → Answer
+further (A.Accepted n) rs = ruled n (docinfoFault rs)
+further (A.Refused r) rs = A.Refused r
+
+-- the answer where the shortest list has `room` entries: read's numbers, then 16 to 18
+unfoldable pub docinfoAnswer : List ℕ → ℕ → Answer
+docinfoAnswer s room = further (readAnswer s room) (readAll s .recs)

@@ -1,0 +1,70 @@
+-- The only record with a tag, at level 0 (document 01, 'DocInfo', and number 16).
+use Prim.Native.Nat.{ℕ, _+_, _≤_}
+use mathlib.Core.Bool.{cond}
+use mathlib.Core.List.{List, [], _∷_}
+use lib.Dec.{eqb}
+use lib.ListN.{length, take, drop}
+use Rattle.records.specs.Records.{Rec, leadOf, size}
+use Rattle.records.specs.Reading.{readFrom}
+use Rattle.records.specs.declared.header.Header.{Header}
+use Rattle.docinfo.specs.Children.{keepIf}
+use Rattle.docinfo.specs.declared.seek.Met.{Met}
+use Rattle.docinfo.specs.declared.seek.Sought.{Sought}
+use Rattle.docinfo.specs.declared.seek.Sought.the-variants as S
+use Rattle.docinfo.specs.declared.seek.Sole.{Sole}
+use Rattle.docinfo.specs.declared.seek.Sole.the-variants as O
+
+-- a record of a stream: the place of its header, the record, and the records behind it
+pub record Placed : Type 0 where
+  pub at : ℕ
+  pub it : Rec
+  pub behind : List Rec
+
+-- the records with a tag, in stream order, where the first header stands at `at`
+unfoldable pub tagged : ℕ → ℕ → List Rec → List Placed
+tagged t at [] = []
+tagged t at (r ∷ rs) = keepIf (eqb (r .tag) t) (record { at = at; it = r; behind = rs }) (tagged t (at + size r) rs)
+
+-- the one record, or the place of a refusal
+pub data Only : Type 0 where
+  one : Placed → Only
+  wrong : ℕ → Only
+
+-- 0 where it is absent, else the first that is not at level 0 or is the second
+unfoldable pub onlyOf : List Placed → Only
+onlyOf [] = wrong 0
+onlyOf (p ∷ []) = cond (eqb (p .it .level) 0) (one p) (wrong (p .at))
+onlyOf (p ∷ q ∷ qs) = wrong (cond (eqb (p .it .level) 0) (q .at) (p .at))
+
+unfoldable pub only : ℕ → List Rec → Only
+only t rs = onlyOf (tagged t 0 rs)
+
+-- ---- the same as a header's numbers
+
+abbrev pub headOf : Rec → Header
+headOf r = record { tag = r .tag; level = r .level; lead = leadOf (length (r .body)); length = length (r .body) }
+
+abbrev pub metOf : Placed → Met
+metOf p = record { place = record { 0 = p .at }; header = headOf (p .it) }
+
+-- the first of them
+abbrev pub soughtOf : List Placed → Sought
+soughtOf [] = S.Nothing
+soughtOf (p ∷ ps) = S.Record (metOf p)
+
+abbrev pub soleOf : Only → Sole
+soleOf (one p) = O.One (metOf p)
+soleOf (wrong a) = O.Wrong (record { 0 = a })
+
+-- the record that a header names in a stream
+abbrev pub placedAt : List ℕ → Met → Placed
+placedAt s m =
+    record {
+      at = m .place .0;
+      it = record { tag = m .header .tag; level = m .header .level; body = take (m .header .length) (drop (m .place .0 + m .header .lead) s) };
+      behind = readFrom (m .header .level + 1) 0 (drop (m .place .0 + m .header .lead + m .header .length) s) .recs;
+    }
+
+-- its last byte is in the stream
+abbrev pub Within : List ℕ → Met → Type 0
+Within s m = m .place .0 + m .header .lead + m .header .length ≤ length s

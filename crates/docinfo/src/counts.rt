@@ -1,0 +1,149 @@
+// The counts of record 17, and what they are matched with.
+use crate::children::count_children;
+use numbers::number16;
+ghost use mathlib.Core.Path.{_≡_};
+ghost use Prim.Native.Nat.{_+_, _≤_, _<_};
+ghost use lib.ListN.{drop};
+ghost use Rattle.records.specs.Reading.{readFrom};
+ghost use Rattle.docinfo.specs.Children.{children};
+ghost use Rattle.docinfo.specs.Counts.{countAt, negativeFrom, sumFrom, groups, groupAt, unmatched, verdictOf, countFault};
+
+// Counts that sum to the number of children with a tag.
+pub struct Group {
+    pub first: usize,
+    pub many: usize,
+    pub tag: u32,
+}
+
+// The count at fault, if there is one.
+pub enum Verdict {
+    Sound,
+    Fault(usize),
+}
+
+const GROUPS: [Group; 10] = [
+    Group {
+        first: 0,
+        many: 1,
+        tag: 18,
+    },
+    Group {
+        first: 1,
+        many: 7,
+        tag: 19,
+    },
+    Group {
+        first: 8,
+        many: 1,
+        tag: 20,
+    },
+    Group {
+        first: 9,
+        many: 1,
+        tag: 21,
+    },
+    Group {
+        first: 10,
+        many: 1,
+        tag: 22,
+    },
+    Group {
+        first: 11,
+        many: 1,
+        tag: 23,
+    },
+    Group {
+        first: 12,
+        many: 1,
+        tag: 24,
+    },
+    Group {
+        first: 13,
+        many: 1,
+        tag: 25,
+    },
+    Group {
+        first: 14,
+        many: 1,
+        tag: 26,
+    },
+    Group {
+        first: 15,
+        many: 1,
+        tag: 92,
+    },
+];
+
+// A row of the table.
+fn row(i: usize) -> Group
+    requires { ⌜ i < 10 ⌝ }
+    ensures { λ r. ⌜ (r ≡ groupAt i) × (r .first + r .many ≤ 16) ⌝ }
+{
+    GROUPS[i]
+}
+
+// The bits of count i, which are 0 where the body is too short for it.
+fn count_at(body: &[u8], i: usize) -> usize
+    requires { ⌜ i < 16 ⌝ }
+    ensures { λ r. ⌜ (r ≡ countAt 2 (now (body .entry)) i) × (r < 65536) ⌝ }
+{
+    let at = 2 * i;
+    if body.len() < at {
+        return 0;
+    }
+    number16(&body[at..]) as usize
+}
+
+// The first count that is negative.
+fn first_negative(body: &[u8]) -> Verdict
+    ensures { λ r. ⌜ r ≡ verdictOf (negativeFrom 2 (now (body .entry)) 0 16) ⌝ }
+{
+    let mut i: usize = 0;
+    while i < 16 {
+        if 32768 <= count_at(body, i) {
+            return Verdict::Fault(i);
+        }
+        i = i + 1;
+    }
+    Verdict::Sound
+}
+
+// The sum of `many` counts.
+fn sum_counts(body: &[u8], first: usize, many: usize) -> usize
+    requires { ⌜ first + many ≤ 16 ⌝ }
+    ensures { λ r. ⌜ r ≡ sumFrom 2 (now (body .entry)) first many ⌝ }
+{
+    let mut sum: usize = 0;
+    let mut k: usize = 0;
+    while k < many {
+        sum = sum + count_at(body, first + k);
+        k = k + 1;
+    }
+    sum
+}
+
+// The first count of the first group that is not matched by the children among the records from `behind` on.
+fn first_unmatched(s: &[u8], body: &[u8], behind: usize) -> Verdict
+    ensures { λ r. ⌜ r ≡ verdictOf (unmatched 2 (now (body .entry)) (children 1 (readFrom 1 0 (drop behind (now (s .entry))) .recs)) groups) ⌝ }
+{
+    let mut i: usize = 0;
+    while i < 10 {
+        let g = row(i);
+        let sum = sum_counts(body, g.first, g.many);
+        if sum != count_children(s, behind, 1, g.tag) {
+            return Verdict::Fault(g.first);
+        }
+        i = i + 1;
+    }
+    Verdict::Sound
+}
+
+// The count of record 17 that is at fault: the first that is negative, else the first in a group that is not matched.
+pub fn judge_counts(s: &[u8], body: &[u8], behind: usize) -> Verdict
+    ensures { λ r. ⌜ r ≡ verdictOf (countFault 2 (now (body .entry)) (children 1 (readFrom 1 0 (drop behind (now (s .entry))) .recs))) ⌝ }
+{
+    match first_negative(body) {
+        Verdict::Fault(i) => Verdict::Fault(i),
+        Verdict::Sound => first_unmatched(s, body, behind),
+    }
+}

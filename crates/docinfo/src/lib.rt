@@ -1,0 +1,15 @@
+// DocInfo: read with its counts (document 01, 'DocInfo').
+mod children;
+mod counts;
+mod read;
+mod seek;
+
+pub use children::count_children;
+pub use counts::Group;
+pub use counts::Verdict;
+pub use read::check_docinfo;
+pub use read::read_docinfo;
+pub use seek::Met;
+pub use seek::Sole;
+pub use seek::Sought;
+pub use seek::only;

@@ -1,0 +1,90 @@
+// The DocInfo read.
+use crate::counts::Verdict;
+use crate::counts::judge_counts;
+use crate::seek::Met;
+use crate::seek::Sole;
+use crate::seek::only;
+use records::Answer;
+use records::Fault;
+use records::refused;
+ghost use mathlib.Core.Path.{_≡_};
+ghost use Prim.Native.Nat.{min};
+ghost use Rattle.records.specs.Reading.{readAll};
+ghost use Rattle.records.specs.Table.{entered, Table, shortest};
+ghost use Rattle.docinfo.specs.Only.{placedAt, Within};
+ghost use Rattle.docinfo.specs.DocInfo.{bodiesFault, docinfoFault, ruled, docinfoAnswer};
+
+// 17 for record 16, 17 for record 17, 18; else n records are accepted.
+fn judge_bodies(s: &[u8], n: usize, properties: Met, mappings: Met) -> Answer
+    requires { ⌜ (Within (now s) properties) × (Within (now s) mappings) × (mappings .header .level ≡ 0) ⌝ }
+    ensures { λ r. ⌜ r ≡ ruled n (bodiesFault (placedAt (now (s .entry)) properties) (placedAt (now (s .entry)) mappings)) ⌝ }
+{
+    let p = properties.header;
+    let p_place = properties.place;
+    if p.length < 30 {
+        return refused(Fault::DocInfoLength, p_place.0);
+    }
+    let m = mappings.header;
+    let m_place = mappings.place;
+    let at = m_place.0;
+    if m.length != 32 {
+        return refused(Fault::DocInfoLength, at);
+    }
+    let from = at + m.lead;
+    let to = from + m.length;
+    match judge_counts(s, &s[from..to], to) {
+        Verdict::Sound => Answer::Accepted(n),
+        Verdict::Fault(_) => refused(Fault::CountUnmatched, at),
+    }
+}
+
+// 16 for record 16, 16 for record 17, and then their bodies; else n records are accepted.
+fn judge(s: &[u8], n: usize) -> Answer
+    ensures { λ r. ⌜ r ≡ ruled n (docinfoFault (readAll (now (s .entry)) .recs)) ⌝ }
+{
+    match only(s, 16) {
+        Sole::Wrong(p) => refused(Fault::DocInfoRecord, p.0),
+        Sole::One(properties) => match only(s, 17) {
+            Sole::Wrong(p) => refused(Fault::DocInfoRecord, p.0),
+            Sole::One(mappings) => judge_bodies(s, n, properties, mappings),
+        },
+    }
+}
+
+// The DocInfo read without lists: what it answers where the shortest would have `room` entries.
+pub fn check_docinfo(s: &[u8], room: usize) -> Answer
+    ensures { λ r. ⌜ r ≡ docinfoAnswer (now (s .entry)) room ⌝ }
+{
+    match records::scan(s, room) {
+        Answer::Accepted(n) => judge(s, n),
+        Answer::Refused(r) => Answer::Refused(r),
+    }
+}
+
+fn lesser(a: usize, b: usize) -> usize
+    ensures { λ r. ⌜ r ≡ min a b ⌝ }
+{
+    if a < b { a } else { b }
+}
+
+// Reads DocInfo's records into four lists: tag, level, body place and body length. A refusal changes no entry; entries past the
+// records stay.
+pub fn read_docinfo(
+    s: &[u8],
+    tags: &mut [u32],
+    levels: &mut [u32],
+    places: &mut [u32],
+    lengths: &mut [u32],
+) -> Answer
+    ensures answer { λ r. ⌜ r ≡ docinfoAnswer (now (s .entry)) (shortest (now (tags .entry)) (now (levels .entry)) (now (places .entry)) (now (lengths .entry))) ⌝ }
+    ensures table { λ r. ⌜ Table (entered r (readAll (now (s .entry)) .recs)) (now (tags .entry)) (now (tags .exit)) (now (levels .entry)) (now (levels .exit)) (now (places .entry)) (now (places .exit)) (now (lengths .entry)) (now (lengths .exit)) ⌝ }
+{
+    let room = lesser(
+        lesser(tags.len(), levels.len()),
+        lesser(places.len(), lengths.len()),
+    );
+    match check_docinfo(s, room) {
+        Answer::Accepted(_) => records::read(s, tags, levels, places, lengths),
+        Answer::Refused(r) => Answer::Refused(r),
+    }
+}

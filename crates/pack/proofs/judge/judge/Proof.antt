@@ -1,0 +1,40 @@
+-- 27 first, then the rows. Assumes nothing.
+use native.Mathlib.Omega.{arith}
+use mathlib.Core.Path.{sym, _∙_}
+use Rattle.pack.proofs.JudgeLaws.{lists-short, lists-long}
+use borrow.Author.Needs.{needs}
+use Rattle.pack.proofs.judge.judge.Statement.{statement}
+use Rattle.pack.proofs.judge.judge.Tie as tie
+use Rattle.pack.proofs.judge.judge.Reads as reads
+use Rattle.pack.proofs.judge.judge.Lts as lts
+use Rattle.pack.proofs.judge.judge_rows.Reads as judge-rows-reads
+use Rattle.pack.proofs.judge.lesser.Reads as lesser-reads
+
+lesser-requires : tie.Need-lesser-requires
+lesser-requires c κs = search needs
+
+lesser-requires-2 : tie.Need-lesser-requires-2
+lesser-requires-2 c κs = search needs
+
+lesser-requires-3 : tie.Need-lesser-requires-3
+lesser-requires-3 c κs = search needs
+
+returns : tie.Need-returns
+returns c = sym (lists-short _ _ _ _ _ _ _ (omega arith))
+
+judge-rows-requires : tie.Need-judge-rows-requires
+judge-rows-requires c κs = search needs
+
+returns-2 : tie.Need-returns-2
+returns-2 c = c .judge-rows .ensures ∙ sym (lists-long _ _ _ _ _ _ _ (omega arith))
+
+pub judge-spec : {M : Type 1} → statement M
+judge-spec =
+    tie.close
+    (tie.spec
+    lesser-requires
+    lesser-requires-2
+    lesser-requires-3
+    returns
+    judge-rows-requires
+    returns-2)

@@ -1,0 +1,37 @@
+-- The rows of a table, and the records that they point to (document 01, 'Pack takes a record count, four such lists and the bytes they point into').
+use Prim.Native.Nat.{ℕ, zero, suc, _+_, _≤_}
+use mathlib.Core.List.{List, [], _∷_, map}
+use lib.ListN.{getD, take, drop}
+use Rattle.records.specs.Records.{Rec}
+
+-- a record by its parts
+abbrev pub recordOf : ℕ → ℕ → List ℕ → Rec
+recordOf tag level body = record { tag = tag; level = level; body = body }
+
+-- an entry of each of the four lists
+pub record Row : Type 0 where
+  pub tag : ℕ
+  pub level : ℕ
+  pub place : ℕ
+  pub length : ℕ
+
+abbrev pub rowOf : ℕ → ℕ → ℕ → ℕ → Row
+rowOf tag level place length = record { tag = tag; level = level; place = place; length = length }
+
+-- the first n rows of the four lists
+unfoldable pub rows : ℕ → List ℕ → List ℕ → List ℕ → List ℕ → List Row
+rows zero t l p q = []
+rows (suc n) t l p q =
+    rowOf (getD t 0 0) (getD l 0 0) (getD p 0 0) (getD q 0 0) ∷ rows n (drop 1 t) (drop 1 l) (drop 1 p) (drop 1 q)
+
+-- the record that a row points to: its body is the lent bytes from its place on
+abbrev pub pointed : List ℕ → Row → Rec
+pointed bytes r = recordOf (r .tag) (r .level) (take (r .length) (drop (r .place) bytes))
+
+abbrev pub records : List ℕ → List Row → List Rec
+records bytes rs = map (pointed bytes) rs
+
+-- every body lies in the lent bytes
+abbrev pub Inside : ℕ → List Row → Type 0
+Inside lent [] = Unit {0}
+Inside lent (r ∷ rs) = (r .place + r .length ≤ lent) × Inside lent rs

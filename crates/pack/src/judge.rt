@@ -1,0 +1,164 @@
+// Judging a table before a byte of it is written.
+use crate::put::lead;
+use records::Fault;
+use records::bits;
+ghost use mathlib.Core.Path.{_≡_};
+ghost use Prim.Native.Nat.{_+_, _≤_, _<_, min};
+ghost use lib.ListN.{length};
+ghost use Rattle.records.specs.Answers.{hostForm};
+ghost use Rattle.records.specs.Records.{leadOf};
+ghost use Rattle.records.specs.Table.{shortest};
+ghost use Rattle.pack.specs.Rows.{Row, rows, rowOf};
+ghost use Rattle.pack.specs.Packing.{number, place, verdict, closing, rowsAnswer, packAnswer};
+
+// A record's index in the table.
+pub struct Index(pub usize);
+
+// What pack answers: the length written, or a fault with the index of its record.
+pub enum Packed {
+    Length(usize),
+    Refused { fault: Fault, index: Index },
+}
+
+impl Packed {
+    // The host's form: the number, plus 256 times the index or the length that stands in its column for 0.
+    pub fn host(self) -> u64
+        ensures { λ r. ⌜ r ≡ hostForm (number self) (place self) 0 ⌝ }
+    {
+        match self {
+            Packed::Length(n) => 256 * bits(n),
+            Packed::Refused { fault, index } => fault.number() + 256 * bits(index.0),
+        }
+    }
+}
+
+// What one row's numbers say.
+pub enum Verdict {
+    Sound,
+    Faulty(Fault),
+}
+
+// Widens to an index or a length.
+pub fn wide(x: u32) -> usize
+    ensures { λ r. ⌜ (r ≡ x) × (r < 4294967296) ⌝ }
+{
+    x as usize
+}
+
+// A row whose level may be at most cap, over `lent` bytes: 5, 6, 4.
+fn row(tag: u32, level: u32, place: usize, length: usize, cap: u32, lent: usize) -> Verdict
+    requires { ⌜ (place < 4294967296) × (length < 4294967296) ⌝ }
+    ensures { λ r. ⌜ r ≡ verdict cap lent (rowOf tag level place length) ⌝ }
+{
+    if tag < 16 {
+        return Verdict::Faulty(Fault::TagOutside);
+    }
+    if 1023 < tag {
+        return Verdict::Faulty(Fault::TagOutside);
+    }
+    if cap < level {
+        return Verdict::Faulty(Fault::LevelRule);
+    }
+    if 1023 < level {
+        return Verdict::Faulty(Fault::LevelRule);
+    }
+    if lent < place + length {
+        return Verdict::Faulty(Fault::BodyPastEnd);
+    }
+    Verdict::Sound
+}
+
+// A total with one more record; what is over the limit stays one over it, so that no sum of overlapping bodies wraps.
+fn grown(total: usize, length: usize) -> usize
+    requires { ⌜ (total ≤ 16777217) × (length < 4294967296) ⌝ }
+    ensures { λ r. ⌜ (r ≡ min 16777217 (total + (leadOf length + length))) × (r ≤ 16777217) ⌝ }
+{
+    let more = total + lead(length) + length;
+    if 16777217 < more { 16777217 } else { more }
+}
+
+// A stream of `total` bytes into a buffer of `room`: 1, 26.
+fn close(total: usize, room: usize) -> Packed
+    ensures { λ r. ⌜ r ≡ closing room total ⌝ }
+{
+    if 16777216 < total {
+        return Packed::Refused {
+            fault: Fault::StreamTooLong,
+            index: Index(0),
+        };
+    }
+    if room < total {
+        return Packed::Refused {
+            fault: Fault::BufferTooShort,
+            index: Index(0),
+        };
+    }
+    Packed::Length(total)
+}
+
+// The rows of lists that are long enough: 5, 6, 4 of each, then 1 and 26.
+fn judge_rows(
+    count: usize,
+    tags: &[u32],
+    levels: &[u32],
+    places: &[u32],
+    lengths: &[u32],
+    bytes: &[u8],
+    room: usize,
+) -> Packed
+    requires { ⌜ count ≤ shortest (now tags) (now levels) (now places) (now lengths) ⌝ }
+    ensures { λ r. ⌜ r ≡ rowsAnswer (now (bytes .entry)) room (rows count (now (tags .entry)) (now (levels .entry)) (now (places .entry)) (now (lengths .entry))) ⌝ }
+{
+    let mut i: usize = 0;
+    let mut cap: u32 = 0;
+    let mut total: usize = 0;
+    while i < count {
+        let level = levels[i];
+        let length = wide(lengths[i]);
+        match row(tags[i], level, wide(places[i]), length, cap, bytes.len()) {
+            Verdict::Sound => {
+                cap = level + 1;
+                total = grown(total, length);
+                i += 1;
+            }
+            Verdict::Faulty(fault) => {
+                return Packed::Refused {
+                    fault,
+                    index: Index(i),
+                };
+            }
+        }
+    }
+    close(total, room)
+}
+
+fn lesser(a: usize, b: usize) -> usize
+    ensures { λ r. ⌜ r ≡ min a b ⌝ }
+{
+    if a < b { a } else { b }
+}
+
+// What pack answers, before a byte is written: 27, then the rows.
+pub fn judge(
+    count: usize,
+    tags: &[u32],
+    levels: &[u32],
+    places: &[u32],
+    lengths: &[u32],
+    bytes: &[u8],
+    room: usize,
+) -> Packed
+    ensures { λ r. ⌜ r ≡ packAnswer count (now (tags .entry)) (now (levels .entry)) (now (places .entry)) (now (lengths .entry)) (now (bytes .entry)) room ⌝ }
+{
+    let entries = lesser(
+        lesser(tags.len(), levels.len()),
+        lesser(places.len(), lengths.len()),
+    );
+    if entries < count {
+        return Packed::Refused {
+            fault: Fault::ListTooShort,
+            index: Index(0),
+        };
+    }
+    judge_rows(count, tags, levels, places, lengths, bytes, room)
+}
