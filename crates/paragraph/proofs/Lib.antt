@@ -1,1 +1,8 @@
 pub mod ViewLaws
+pub mod StreamLaws
+pub mod FindLaws
+pub mod EntryLaws
+pub mod BodyLaws
+pub mod FieldLaws
+pub mod RuleLaws
+pub mod JudgeLaws

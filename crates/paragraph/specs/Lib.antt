@@ -1,1 +1,5 @@
 pub mod View
+pub mod Stream
+pub mod Entries
+pub mod Rules
+pub mod Places

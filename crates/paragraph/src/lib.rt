@@ -1,5 +1,30 @@
 // One paragraph: its view and its rules (document 01, 'Paragraphs').
+mod children;
+mod entries;
+mod fields;
+mod finding;
+mod judge;
+mod rules;
 mod view;
 
+pub use children::Found;
+pub use children::Part;
+pub use children::Parts;
+pub use children::bytes;
+pub use children::find;
+pub use children::find_parts;
+pub use entries::Entries;
+pub use entries::judge_marks;
+pub use entries::judge_shapes;
+pub use fields::Owner;
+pub use fields::Passed;
+pub use fields::count_controls;
+pub use fields::field_short;
+pub use fields::owned;
+pub use finding::Counts;
+pub use finding::Finding;
+pub use finding::Which;
+pub use judge::judge_paragraph;
+pub use judge::place_in;
 pub use view::Side;
 pub use view::stands_to;

@@ -1,0 +1,102 @@
+-- The passes over shapes and marks: what is still to be judged, and one law for each way that it goes on. Assumes nothing.
+use Prim.Native.Nat.{ℕ, zero, suc, _+_, _-_, _*_, _/_, _≤_, _<_, max}
+use native.Mathlib.Omega.{arith}
+use native.Mathlib.Nat.{sub-zero}
+use mathlib.Core.Path.{_≡_, refl, sym, ap, ap₂, _∙_}
+use mathlib.Core.Option.{Option, none, some}
+use mathlib.Core.List.{List, [], _∷_}
+use lib.ListN.{length, drop}
+use lib.Seq.{drop-drop}
+use borrow.Author.Tests.{le-leb, lt-leb, lt-ltb, le-ltb}
+use Rattle.numbers.specs.Little.{little}
+use Rattle.paragraph.specs.Entries.{entries, startFault, shapesFault, markFault, marksFault, entriesOf}
+use Rattle.paragraph.specs.declared.entries.Entries.the-variants as E
+
+-- ---- entries of any width
+
+module _ (w n i : ℕ) (b : List ℕ) where
+  pub entries-next : i < n → entries w (n - i) (drop (w * i) b) ≡ drop (w * i) b ∷ entries w (n - (i + 1)) (drop (w * i + w) b)
+  unfolding entries
+  entries-next h =
+      let one : n - i ≡ suc (n - (i + 1)) = omega arith in
+      rw one (ap (λ (l : List ℕ). drop (w * i) b ∷ entries w (n - (i + 1)) l) (drop-drop w (w * i) b))
+
+  pub entries-end : n ≤ i → entries w (n - i) (drop (w * i) b) ≡ []
+  unfolding entries
+  entries-end h = let none : n - i ≡ 0 = omega arith in rw none
+
+-- ---- shapes
+
+pub record Rising (b : List ℕ) (count n bound i low high : ℕ) : Type 0 where
+  pub number : n ≡ length b / 8
+  pub limit : bound ≡ max 1 count
+  pub below : high ≤ bound
+  pub rest : shapesFault count b ≡ startFault i low high bound (entries 8 (n - i) (drop (8 * i) b))
+
+pub rising-start : (b : List ℕ) (count bound : ℕ) → bound ≡ max 1 count → Rising b count (length b / 8) bound 0 0 1
+unfolding shapesFault
+rising-start b count bound e = record { number = refl; limit = e; below = omega arith; rest = rw (e, sub-zero) }
+
+module _ {b : List ℕ} {count n bound i low high : ℕ} (k : Rising b count n bound i low high) where
+  module _ (x : ℕ) (h : i < n) (is : x ≡ little 4 (drop (8 * i) b)) where
+    here : shapesFault count b ≡ startFault i low high bound (drop (8 * i) b ∷ entries 8 (n - (i + 1)) (drop (8 * i + 8) b))
+    here = k .rest ∙ ap (startFault i low high bound) (entries-next 8 n i b h)
+
+    pub rising-low : x < low → E.Wrong i ≡ entriesOf (shapesFault count b)
+    unfolding startFault
+    rising-low g = sym (ap entriesOf here ∙ rw (← is, lt-leb low x g))
+
+    pub rising-high : low ≤ x → high ≤ x → E.Wrong i ≡ entriesOf (shapesFault count b)
+    unfolding startFault
+    rising-high f g = sym (ap entriesOf here ∙ rw (← is, le-leb low x f, le-ltb x high g))
+
+    pub rising-next : low ≤ x → x < high → Rising b count n bound (i + 1) (x + 1) bound
+    unfolding startFault
+    rising-next f g =
+        let step : 8 * i + 8 ≡ 8 * (i + 1) = omega arith in
+        record {
+          number = k .number;
+          limit = k .limit;
+          below = omega arith;
+          rest = here ∙ rw (← is, le-leb low x f, lt-ltb x high g, step);
+        }
+
+  pub rising-end : n ≤ i → E.Sound ≡ entriesOf (shapesFault count b)
+  unfolding startFault
+  rising-end h = sym (ap entriesOf (k .rest ∙ ap (startFault i low high bound) (entries-end 8 n i b h)))
+
+-- ---- marks
+
+pub record Marking (b : List ℕ) (count n i : ℕ) : Type 0 where
+  pub number : n ≡ length b / 12
+  pub rest : marksFault count b ≡ markFault i count (entries 12 (n - i) (drop (12 * i) b))
+
+pub marking-start : (b : List ℕ) (count : ℕ) → Marking b count (length b / 12) 0
+unfolding marksFault
+marking-start b count = record { number = refl; rest = rw sub-zero }
+
+module _ {b : List ℕ} {count n i : ℕ} (k : Marking b count n i) where
+  module _ (x y : ℕ) (h : i < n) (is : x ≡ little 4 (drop (12 * i) b)) (end-is : y ≡ little 4 (drop (12 * i + 4) b)) where
+    at-mark : marksFault count b ≡ markFault i count (drop (12 * i) b ∷ entries 12 (n - (i + 1)) (drop (12 * i + 12) b))
+    at-mark = k .rest ∙ ap (markFault i count) (entries-next 12 n i b h)
+
+    second : y ≡ little 4 (drop 4 (drop (12 * i) b))
+    second = end-is ∙ ap (little 4) (sym (drop-drop 4 (12 * i) b))
+
+    pub marking-turned : y < x → E.Wrong i ≡ entriesOf (marksFault count b)
+    unfolding markFault
+    marking-turned g = sym (ap entriesOf at-mark ∙ rw (← is, ← second, lt-leb x y g))
+
+    pub marking-beyond : x ≤ y → count < y → E.Wrong i ≡ entriesOf (marksFault count b)
+    unfolding markFault
+    marking-beyond f g = sym (ap entriesOf at-mark ∙ rw (← is, ← second, le-leb x y f, lt-leb y count g))
+
+    pub marking-next : x ≤ y → y ≤ count → Marking b count n (i + 1)
+    unfolding markFault
+    marking-next f g =
+        let step : 12 * i + 12 ≡ 12 * (i + 1) = omega arith in
+        record { number = k .number; rest = at-mark ∙ rw (← is, ← second, le-leb x y f, le-leb y count g, step) }
+
+  pub marking-end : n ≤ i → E.Sound ≡ entriesOf (marksFault count b)
+  unfolding markFault
+  marking-end h = sym (ap entriesOf (k .rest ∙ ap (markFault i count) (entries-end 12 n i b h)))

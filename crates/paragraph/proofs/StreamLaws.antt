@@ -1,0 +1,160 @@
+-- The records of a part of a stream, by the header at a place. Assumes nothing.
+use Prim.Native.Nat.{ℕ, zero, suc, _+_, _-_, _/_, _%_, _≤_, _<_}
+use native.Mathlib.Omega.{arith}
+use mathlib.Core.Path.{_≡_, refl, sym, ap, _∙_}
+use mathlib.Core.Bool.{Bool, true, false, cond}
+use mathlib.Core.Option.{Option, none, some}
+use mathlib.Core.List.{List, [], _∷_, _++_}
+use lib.Dec.{ltb}
+use borrow.Author.Tests.{ltb-true, ltb-false}
+use lib.ListN.{length, take, drop, length-drop, length-append}
+use lib.Seq.{drop-drop, drop-at, take-add, length-take-le}
+use Rattle.numbers.specs.Little.{Bytes}
+use Rattle.records.specs.Records.{Rec, leadOf, headerOf, encodeOne, encode, size, Obeys, Lawful}
+use Rattle.records.specs.Reading.{Stands, whole, fault, standsAt, frontOf, readFrom, readAll}
+use Rattle.records.specs.declared.fault.Fault.{Fault}
+use Rattle.records.specs.declared.header.Header.{Header}
+use Rattle.records.specs.declared.header.Front.{Front}
+use Rattle.records.specs.declared.header.Front.the-variants as H
+use Rattle.records.proofs.ReadingLaws.{Here, here, Found, found, size-least, length-headerOf, length-encodeOne, stands-encode, encode-read}
+use Rattle.numbers.proofs.LittleLaws.{bytes-drop, part-rest}
+use Rattle.paragraph.specs.Stream.{within, recordsIn}
+
+-- ---- the clauses
+
+in-skip : (k : ℕ) (s : List ℕ) → within k s ≡ within 0 (drop k s)
+unfolding within
+in-skip zero s = refl
+in-skip (suc k) [] = refl
+in-skip (suc k) (x ∷ s) = in-skip k s
+
+pub in-end : (s : List ℕ) → length s ≡ 0 → recordsIn s ≡ []
+unfolding recordsIn within
+in-end [] e = refl
+in-end (x ∷ s) e = absurd (omega arith)
+
+pub in-stop : (s : List ℕ) (f : Fault) → standsAt 1023 s ≡ fault f → recordsIn s ≡ []
+unfolding recordsIn within
+in-stop [] f e = refl
+in-stop (x ∷ s) f e = rw (e, within)
+
+pub in-next : (s : List ℕ) (r : Rec) → 0 < length s → standsAt 1023 s ≡ whole r → recordsIn s ≡ r ∷ recordsIn (drop (size r) s)
+unfolding recordsIn within
+in-next [] r h e = absurd (omega arith)
+in-next (x ∷ s) r h e =
+    let one : size r ≡ suc (size r - 1) = omega (arith, size-least r) in
+    rw (e, within) (ap (λ (l : List Rec). r ∷ l) (in-skip (size r - 1) s ∙ ap (λ (k : ℕ). within 0 (drop k (x ∷ s))) (sym one)))
+
+-- ---- a record at a place
+
+-- the body is behind the lead
+body-behind : (r : Rec) (x : List ℕ) → encodeOne r ≡ take (size r) x → size r ≤ length x
+    → take (length (r .body)) (drop (leadOf (length (r .body))) x) ≡ r .body
+unfolding encodeOne size
+body-behind r x e h =
+    let lead = leadOf (length (r .body)) in
+    let n = length (r .body) in
+    sym (drop-at (take lead x) (take n (drop lead x)) lead (length-take-le lead x (omega arith)))
+    ∙ ap (drop lead) (sym (take-add lead n x) ∙ sym e)
+    ∙ drop-at (headerOf (r .tag) (r .level) n) (r .body) lead (length-headerOf (r .tag) (r .level) n)
+
+-- r stands at `at`, and the records go on behind it
+pub record Stood (s : List ℕ) (at : ℕ) (r : Rec) : Type 0 where
+  pub level-high : r .level < 1024
+  pub inside : at + size r ≤ length s
+  pub some-left : at < length s
+  pub body-is : take (length (r .body)) (drop (at + leadOf (length (r .body))) s) ≡ r .body
+  pub records : recordsIn (drop at s) ≡ r ∷ recordsIn (drop (at + size r) s)
+
+module _ (s : List ℕ) (at : ℕ) (bs : Bytes s) where
+  pub stood : (r : Rec) → at < length s → standsAt 1023 (drop at s) ≡ whole r → Stood s at r
+  stood r h e =
+      let k = found 1023 (drop at s) (bytes-drop at s bs) r e in
+      let i : at + size r ≤ length s = omega (arith, k .inside, length-drop at s) in
+      record {
+        level-high = k .obeys .level-high;
+        inside = i;
+        some-left = h;
+        body-is =
+            ap (take (length (r .body))) (sym (drop-drop (leadOf (length (r .body))) at s))
+            ∙ body-behind r (drop at s) (k .bytes) (k .inside);
+        records = in-next (drop at s) r (omega (arith, length-drop at s)) e ∙ ap (λ (l : List ℕ). r ∷ recordsIn l) (drop-drop (size r) at s);
+      }
+
+  -- by the list: what stands at the front of the records stands in the stream
+  stood-by : (a : Stands) → standsAt 1023 (drop at s) ≡ a → (r : Rec) (rs : List Rec) → at < length s → recordsIn (drop at s) ≡ r ∷ rs → Stood s at r
+  stood-by (fault f) q r rs h e = absurd (let z : _≡_ {A = List Rec} [] (r ∷ rs) = sym (in-stop (drop at s) f q) ∙ e in let y : _≡_ {A = ℕ} 0 1 = cc in omega arith)
+  stood-by (whole t) q r rs h e =
+      let k = stood t h q in
+      let same : t ≡ r = let z : t ∷ recordsIn (drop (at + size t) s) ≡ r ∷ rs = sym (k .records) ∙ e in cc in
+      rw (← same) k
+
+  left-by : (r : Rec) (rs : List Rec) → recordsIn (drop at s) ≡ r ∷ rs → (b : Bool) → ltb at (length s) ≡ b → at < length s
+  left-by r rs e true q = ltb-true at (length s) q
+  left-by r rs e false q =
+      absurd (let z : _≡_ {A = List Rec} [] (r ∷ rs) = sym (in-end (drop at s) (omega (arith, length-drop at s, ltb-false at (length s) q))) ∙ e in let y : _≡_ {A = ℕ} 0 1 = cc in omega arith)
+
+  pub stood-of : (r : Rec) (rs : List Rec) → recordsIn (drop at s) ≡ r ∷ rs → Stood s at r × (recordsIn (drop (at + size r) s) ≡ rs)
+  stood-of r rs e =
+      let k = stood-by (standsAt 1023 (drop at s)) refl r rs (left-by r rs e (ltb at (length s)) refl) e in
+      (k, let z : r ∷ recordsIn (drop (at + size r) s) ≡ r ∷ rs = sym (k .records) ∙ e in cc)
+
+-- ---- a pass over a stream: what is known where a header was read at `at`
+
+pub record Read (s : List ℕ) (at : ℕ) (h : Header) : Type 0 where
+  pub rec : Rec
+  pub tag-is : h .tag ≡ rec .tag
+  pub level-is : h .level ≡ rec .level
+  pub lead-is : h .lead ≡ leadOf (length (rec .body))
+  pub length-is : h .length ≡ length (rec .body)
+  pub size-is : h .lead + h .length ≡ size rec
+  pub least : 4 ≤ size rec
+  pub stands : Stood s at rec
+
+module _ (s : List ℕ) (at : ℕ) (bs : Bytes s) (h : at < length s) where
+  pub read-at : (k : Header) → frontOf (standsAt 1023 (take (length s - at) (drop at s))) ≡ H.Record k → Read s at k
+  read-at k e =
+      let d = here s at 1023 bs h k e in
+      record {
+        rec = d .rec;
+        tag-is = d .tag-is;
+        level-is = d .level-is;
+        lead-is = d .lead-is;
+        length-is = d .length-is;
+        size-is = d .size-is;
+        least = size-least (d .rec);
+        stands = stood s at bs (d .rec) h (d .stands);
+      }
+
+none-by : (s : List ℕ) (a : Stands) (f : Fault) → standsAt 1023 s ≡ a → frontOf a ≡ H.Refused f → recordsIn s ≡ []
+none-by s (fault g) f q e = in-stop s g q
+none-by s (whole r) f q e = absurd (let z : _≡_ {A = ℕ} 0 1 = cc in omega arith)
+
+pub none-at : (s : List ℕ) (at : ℕ) (f : Fault) → frontOf (standsAt 1023 (take (length s - at) (drop at s))) ≡ H.Refused f → recordsIn (drop at s) ≡ []
+none-at s at f e = none-by (drop at s) (standsAt 1023 (drop at s)) f refl (ap (λ (l : List ℕ). frontOf (standsAt 1023 l)) (sym (part-rest s at)) ∙ e)
+
+pub none-left : (s : List ℕ) (at : ℕ) → length s ≤ at → recordsIn (drop at s) ≡ []
+none-left s at h = in-end (drop at s) (omega (arith, length-drop at s))
+
+-- ---- the records of a whole stream
+
+-- a level has ten bits
+any-level : {cap : ℕ} {r : Rec} → Obeys cap r → Obeys 1023 r
+any-level o =
+    record { tag-low = o .tag-low; tag-high = o .tag-high; level-cap = omega (arith, o .level-high); level-high = o .level-high; body-fits = o .body-fits }
+
+pub in-encode : (cap : ℕ) (rs : List Rec) → Lawful cap rs → recordsIn (encode rs) ≡ rs
+unfolding encode
+in-encode cap [] l = in-end [] refl
+in-encode cap (r ∷ rs) l =
+    in-next (encodeOne r ++ encode rs) r (omega (arith, length-append (encodeOne r) (encode rs), length-encodeOne r, size-least r))
+    (stands-encode 1023 r (encode rs) (any-level (l .0)))
+    ∙ ap (λ (t : List ℕ). r ∷ recordsIn t) (drop-at (encodeOne r) (encode rs) (size r) (length-encodeOne r))
+    ∙ ap (λ (t : List Rec). r ∷ t) (in-encode (r .level + 1) rs (l .1))
+
+-- the records of a stream that reads to its end are those that are read
+pub in-read : (s : List ℕ) → Bytes s → readAll s .stop ≡ none → recordsIn s ≡ readAll s .recs
+unfolding readAll
+in-read s bs e =
+    let k = encode-read 0 s bs e in
+    ap recordsIn (sym (k .stream)) ∙ in-encode 0 (readFrom 0 0 s .recs) (k .lawful)

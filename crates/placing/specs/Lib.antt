@@ -1,2 +1,0 @@
-pub mod Parents
-pub mod Levels

@@ -1,0 +1,147 @@
+-- The passes of a section over the stream are the rules over its records. Assumes nothing.
+use Prim.Native.Nat.{ℕ, zero, suc, _+_, _-_, _≤_, _<_}
+use native.Mathlib.Omega.{arith}
+use mathlib.Core.Path.{_≡_, refl, sym, ap, ap₂, _∙_, subst}
+use mathlib.Core.Bool.{Bool, true, false, cond}
+use mathlib.Core.Option.{Option, none, some}
+use mathlib.Core.List.{List, [], _∷_}
+use lib.ListN.{length, take, drop, length-drop}
+use borrow.Author.Tests.{eq-eqb, ne-eqb}
+use Rattle.numbers.specs.Little.{Bytes}
+use Rattle.numbers.proofs.LittleLaws.{part-rest}
+use Rattle.records.specs.Records.{Rec, size}
+use Rattle.records.specs.Reading.{readAll}
+use Rattle.records.specs.Answers.{refusedAt}
+use Rattle.records.specs.Table.{readAnswer, entered}
+use Rattle.records.specs.declared.fault.Fault.{Fault}
+use Rattle.records.specs.declared.fault.Fault.the-variants as F
+use Rattle.records.specs.declared.fault.Refusal.{Refusal}
+use Rattle.records.specs.declared.fault.Answer.{Answer}
+use Rattle.records.specs.declared.fault.Answer.the-variants as A
+use Rattle.records.specs.declared.header.Header.{Header}
+use Rattle.records.proofs.ScanLaws.{accepted}
+use Rattle.paragraph.specs.Stream.{recordsIn}
+use Rattle.paragraph.specs.Rules.{firstFault}
+use Rattle.paragraph.specs.Places.{placeOf}
+use Rattle.paragraph.specs.declared.finding.Which.{Which}
+use Rattle.paragraph.specs.declared.finding.Finding.{Finding}
+use Rattle.paragraph.specs.declared.finding.Finding.the-variants as G
+use Rattle.paragraph.proofs.StreamLaws.{Read, in-read}
+use Rattle.section.specs.Parents.{header, strayFrom}
+use Rattle.section.specs.Seats.{strayOf}
+use Rattle.section.specs.Section.{refusal, refusalOr, findingOf, paragraphsFault, strayOr, sectionFault, settled, ruled, sectionAnswer, checkAnswer}
+use Rattle.section.specs.declared.parents.Stray.{Stray}
+use Rattle.section.specs.declared.parents.Stray.the-variants as Y
+
+-- ---- by the tag
+
+module _ (tag : ℕ) (rs : List Rec) where
+  pub finding-header : (x : Finding) → tag ≡ 66 → x ≡ firstFault rs → x ≡ findingOf tag rs
+  unfolding header
+  finding-header x e q = rw (eq-eqb tag 66 e) q
+
+  pub finding-other : (tag ≡ 66 → ⊥) → G.Lawful ≡ findingOf tag rs
+  unfolding header
+  finding-other e = rw (ne-eqb tag 66 e)
+
+-- ---- the paragraphs: what is still to be judged where the pass has come to `at`
+
+pub record Judging (s : List ℕ) (at : ℕ) : Type 0 where
+  pub rest : paragraphsFault 0 (recordsIn s) ≡ paragraphsFault at (recordsIn (drop at s))
+
+pub judging-start : (s : List ℕ) → Judging s 0
+judging-start s = record { rest = refl }
+
+module _ {s : List ℕ} {at : ℕ} {h : Header} (k : Judging s at) (d : Read s at h) where
+  abbrev left : List Rec
+  left = recordsIn (take (length s - at) (drop at s))
+
+  left-is : left ≡ d .rec ∷ recordsIn (drop (at + size (d .rec)) s)
+  left-is = ap recordsIn (part-rest s at) ∙ d .stands .records
+
+  here : paragraphsFault 0 (recordsIn s) ≡ refusalOr at left (findingOf (h .tag) left) (paragraphsFault (at + size (d .rec)) (recordsIn (drop (at + size (d .rec)) s)))
+  unfolding paragraphsFault
+  here =
+      k .rest
+      ∙ ap (paragraphsFault at) (d .stands .records)
+      ∙ ap₂ (λ (l : List Rec) (t : ℕ). refusalOr at l (findingOf t l) (paragraphsFault (at + size (d .rec)) (recordsIn (drop (at + size (d .rec)) s)))) (sym left-is) (sym (d .tag-is))
+
+  pub judging-next : (x : Finding) → x ≡ findingOf (h .tag) left → x ≡ G.Lawful → Judging s (at + h .lead + h .length)
+  judging-next x e q =
+      let to : at + size (d .rec) ≡ at + h .lead + h .length = omega (arith, d .size-is) in
+      record {
+        rest =
+            here
+            ∙ ap (λ (y : Finding). refusalOr at left y (paragraphsFault (at + size (d .rec)) (recordsIn (drop (at + size (d .rec)) s)))) (sym e ∙ q)
+            ∙ ap (λ (a : ℕ). paragraphsFault a (recordsIn (drop a s))) to;
+      }
+
+  pub judging-breach : (x : Finding) (f : Fault) (w : Which) (n p : ℕ) → x ≡ findingOf (h .tag) left → x ≡ G.Breach f w → p ≡ placeOf left w
+      → refusedAt f (at + p) ≡ settled n (paragraphsFault 0 (recordsIn s))
+  judging-breach x f w n p e q z =
+      sym
+      (ap (settled n)
+      (here ∙ ap (λ (y : Finding). refusalOr at left y (paragraphsFault (at + size (d .rec)) (recordsIn (drop (at + size (d .rec)) s)))) (sym e ∙ q))
+      ∙ ap (λ (y : ℕ). refusedAt f (at + y)) (sym z))
+
+pub judging-end : {s : List ℕ} {at : ℕ} (n : ℕ) → Judging s at → recordsIn (drop at s) ≡ [] → A.Accepted n ≡ settled n (paragraphsFault 0 (recordsIn s))
+unfolding paragraphsFault
+judging-end {s} {at} n k e = sym (ap (settled n) (k .rest ∙ ap (paragraphsFault at) e))
+
+-- ---- 9, then the paragraphs
+
+stray-by : (n : ℕ) (o : Option ℕ) (p : ℕ) (rest : Option Refusal) → strayOf o ≡ Y.At p → refusedAt F.Misplaced p ≡ settled n (strayOr o rest)
+stray-by n none p rest e = absurd (let z : _≡_ {A = ℕ} 0 1 = cc in omega arith)
+stray-by n (some q) p rest e = let z : p ≡ q = cc in ap (refusedAt F.Misplaced) z
+
+nowhere-by : (n : ℕ) (o : Option ℕ) (y : Answer) (rest : Option Refusal) → strayOf o ≡ Y.Nowhere → y ≡ settled n rest → y ≡ settled n (strayOr o rest)
+nowhere-by n none y rest e q = q
+nowhere-by n (some p) y rest e q = absurd (let z : _≡_ {A = ℕ} 0 1 = cc in omega arith)
+
+module _ (n : ℕ) (o : Option ℕ) (rest : Option Refusal) (x : Stray) (is : x ≡ strayOf o) where
+  pub section-stray : (p : ℕ) → x ≡ Y.At p → refusedAt F.Misplaced p ≡ settled n (strayOr o rest)
+  section-stray p e = stray-by n o p rest (sym is ∙ e)
+
+  pub section-placed : (y : Answer) → x ≡ Y.Nowhere → y ≡ settled n rest → y ≡ settled n (strayOr o rest)
+  section-placed y e q = nowhere-by n o y rest (sym is ∙ e) q
+
+-- ---- read's answer, then the rules
+
+module _ (s : List ℕ) (room : ℕ) (x : Answer) (is : x ≡ readAnswer s room) where
+  pub answer-rules : (n : ℕ) (y : Answer) → Bytes s → x ≡ A.Accepted n
+      → y ≡ settled n (strayOr (strayFrom 0 [] (readAll s .recs)) (paragraphsFault 0 (recordsIn s))) → y ≡ sectionAnswer s room
+  unfolding sectionAnswer sectionFault
+  answer-rules n y bs e q =
+      let k = accepted s room n (sym is ∙ e) in
+      q
+      ∙ ap (λ (l : List Rec). settled n (strayOr (strayFrom 0 [] (readAll s .recs)) (paragraphsFault 0 l))) (in-read s bs (k .whole))
+      ∙ ap (ruled (readAll s .recs)) (sym e ∙ is)
+
+  pub answer-refused : (r : Refusal) → x ≡ A.Refused r → A.Refused r ≡ sectionAnswer s room
+  unfolding sectionAnswer
+  answer-refused r e = ap (ruled (readAll s .recs)) (sym e ∙ is)
+
+-- ---- what an acceptance says: read accepts too, and enters all records
+
+ruled-accepted : (rs : List Rec) (a : Answer) (n : ℕ) → ruled rs a ≡ A.Accepted n → a ≡ A.Accepted n
+unfolding sectionFault
+ruled-accepted rs (A.Refused r) n e = e
+ruled-accepted rs (A.Accepted m) n e = go (sectionFault rs) e
+  where
+    go : (o : Option Refusal) → settled m o ≡ A.Accepted n → A.Accepted m ≡ A.Accepted n
+    go none q = q
+    go (some r) q = absurd (let z : _≡_ {A = ℕ} 0 1 = cc in omega arith)
+
+pub section-accepted : (s : List ℕ) (room n : ℕ) → sectionAnswer s room ≡ A.Accepted n → readAnswer s room ≡ A.Accepted n
+unfolding sectionAnswer
+section-accepted s room n e = ruled-accepted (readAll s .recs) (readAnswer s room) n e
+
+-- where the section is accepted, its answer is read's
+pub section-read : (s : List ℕ) (room n : ℕ) (x y : Answer) → x ≡ sectionAnswer s room → x ≡ A.Accepted n → y ≡ readAnswer s room → y ≡ sectionAnswer s room
+section-read s room n x y is e q =
+    let a : sectionAnswer s room ≡ A.Accepted n = sym is ∙ e in
+    q ∙ section-accepted s room n a ∙ sym a
+
+-- a place in the part behind `at` is in the stream
+pub place-fits : (s : List ℕ) (at p : ℕ) → at ≤ length s → p ≤ length (take (length s - at) (drop at s)) → at + p ≤ length s
+place-fits s at p h k = omega (arith, ap length (part-rest s at), length-drop at s)

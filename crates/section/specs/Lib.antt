@@ -1,0 +1,3 @@
+pub mod Parents
+pub mod Seats
+pub mod Section

@@ -1,0 +1,9 @@
+// The rules of a section: check and the section read (document 01, 'Order').
+mod parents;
+mod rules;
+
+pub use parents::Seat;
+pub use parents::Stray;
+pub use parents::find_stray;
+pub use rules::check;
+pub use rules::read_section;

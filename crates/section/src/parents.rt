@@ -1,0 +1,109 @@
+// Where records 67 to 70 stand: rule 9.
+use records::Front;
+use records::first;
+ghost use mathlib.Core.Path.{_≡_};
+ghost use mathlib.Core.List.{[]};
+ghost use Prim.Native.Nat.{_≤_};
+ghost use Rattle.records.specs.Reading.{readAll};
+ghost use Rattle.section.specs.Parents.{leaf, strayFrom};
+ghost use Rattle.section.specs.Seats.{ownCode, bitOf, seatLeaf, seatOf, strayOf};
+
+// What becomes of the number kept for a level where a record stands there.
+pub enum Seat {
+    Stray,
+    Seated(u8),
+}
+
+// The earliest record that 9 can name.
+pub enum Stray {
+    Nowhere,
+    At(usize),
+}
+
+fn is_leaf(tag: u32) -> bool
+    ensures { λ r. ⌜ r ≡ leaf tag ⌝ }
+{
+    if tag < 67 {
+        return false;
+    }
+    tag <= 70
+}
+
+fn own_code(tag: u32) -> u8
+    ensures { λ r. ⌜ r ≡ ownCode tag ⌝ }
+{
+    if tag == 66 {
+        return 0;
+    }
+    if is_leaf(tag) { 32 } else { 16 }
+}
+
+fn bit(tag: u32) -> u8
+    ensures { λ r. ⌜ (r ≡ bitOf tag) × (1 ≤ r) × (r ≤ 8) ⌝ }
+{
+    if tag == 67 {
+        return 1;
+    }
+    if tag == 68 {
+        return 2;
+    }
+    if tag == 69 { 4 } else { 8 }
+}
+
+fn seat_leaf(code: u8, tag: u32) -> Seat
+    ensures { λ r. ⌜ r ≡ seatLeaf code tag ⌝ }
+{
+    if 16 <= code {
+        return Seat::Stray;
+    }
+    let b = bit(tag);
+    let digit = code / b % 2;
+    if digit == 1 {
+        return Seat::Stray;
+    }
+    Seat::Seated(code + b)
+}
+
+fn take_seat(code: u8, tag: u32) -> Seat
+    ensures { λ r. ⌜ r ≡ seatOf code tag ⌝ }
+{
+    if code == 32 {
+        return Seat::Stray;
+    }
+    if is_leaf(tag) {
+        return seat_leaf(code, tag);
+    }
+    Seat::Seated(code)
+}
+
+// One pass with a number for each level: what the parent of a record at that level is, and which of 67 to 70 it has.
+pub fn find_stray(s: &[u8]) -> Stray
+    ensures { λ r. ⌜ r ≡ strayOf (strayFrom 0 [] (readAll (now (s .entry)) .recs)) ⌝ }
+{
+    let mut table = [16u8; 1025];
+    let mut at: usize = 0;
+    let mut cap: u32 = 0;
+    while at < s.len() {
+        match first(&s[at..], cap) {
+            Front::Record(h) => {
+                let level = h.level as usize;
+                let tag = h.tag;
+                match take_seat(table[level], tag) {
+                    Seat::Stray => {
+                        return Stray::At(at);
+                    }
+                    Seat::Seated(code) => {
+                        table[level] = code;
+                        table[level + 1] = own_code(tag);
+                    }
+                }
+                at = at + h.lead + h.length;
+                cap = h.level + 1;
+            }
+            Front::Refused(_) => {
+                return Stray::Nowhere;
+            }
+        }
+    }
+    Stray::Nowhere
+}

@@ -1,0 +1,111 @@
+// Check and the section read.
+use crate::parents::Stray;
+use crate::parents::find_stray;
+use paragraph::Finding;
+use paragraph::judge_paragraph;
+use paragraph::place_in;
+use records::Answer;
+use records::Fault;
+use records::Front;
+use records::Kind;
+use records::first;
+use records::read;
+use records::refused;
+use records::scan;
+ghost use mathlib.Core.Path.{_≡_};
+ghost use mathlib.Core.List.{[]};
+ghost use Prim.Native.Nat.{min};
+ghost use Rattle.records.specs.Reading.{readAll};
+ghost use Rattle.records.specs.Table.{entered, Table, shortest};
+ghost use Rattle.paragraph.specs.Stream.{recordsIn};
+ghost use Rattle.section.specs.Parents.{strayFrom};
+ghost use Rattle.section.specs.Section.{findingOf, paragraphsFault, strayOr, settled, sectionAnswer, checkAnswer};
+
+// The finding of the record at the front of s, by its tag.
+fn found_at(s: &[u8], tag: u32) -> Finding
+    ensures { λ r. ⌜ r ≡ findingOf tag (recordsIn (now (s .entry))) ⌝ }
+{
+    if tag == Kind::PARAGRAPH_HEADER {
+        return judge_paragraph(s);
+    }
+    Finding::Lawful
+}
+
+// The paragraphs in stream order; n is the answer where none is at fault.
+fn judge_paragraphs(s: &[u8], n: usize) -> Answer
+    ensures { λ r. ⌜ r ≡ settled n (paragraphsFault 0 (recordsIn (now (s .entry)))) ⌝ }
+{
+    let mut at: usize = 0;
+    while at < s.len() {
+        match first(&s[at..], 1023) {
+            Front::Record(h) => {
+                match found_at(&s[at..], h.tag) {
+                    Finding::Breach { fault, which } => {
+                        let place = place_in(&s[at..], which);
+                        return refused(fault, at + place);
+                    }
+                    Finding::Lawful => {}
+                }
+                at = at + h.lead + h.length;
+            }
+            Front::Refused(_) => {
+                return Answer::Accepted(n);
+            }
+        }
+    }
+    Answer::Accepted(n)
+}
+
+// 9 over all records, then each paragraph.
+fn judge_section(s: &[u8], n: usize) -> Answer
+    ensures { λ r. ⌜ r ≡ settled n (strayOr (strayFrom 0 [] (readAll (now (s .entry)) .recs)) (paragraphsFault 0 (recordsIn (now (s .entry))))) ⌝ }
+{
+    match find_stray(s) {
+        Stray::At(p) => refused(Fault::Misplaced, p),
+        Stray::Nowhere => judge_paragraphs(s, n),
+    }
+}
+
+// What the section read answers where the shortest list has `room` entries.
+fn answer_within(s: &[u8], room: usize) -> Answer
+    ensures { λ r. ⌜ r ≡ sectionAnswer (now (s .entry)) room ⌝ }
+{
+    match scan(s, room) {
+        Answer::Accepted(n) => judge_section(s, n),
+        Answer::Refused(r) => Answer::Refused(r),
+    }
+}
+
+// The section read without lists.
+pub fn check(s: &[u8]) -> Answer
+    ensures { λ r. ⌜ r ≡ checkAnswer (now (s .entry)) ⌝ }
+{
+    answer_within(s, s.len())
+}
+
+fn lesser(a: usize, b: usize) -> usize
+    ensures { λ r. ⌜ r ≡ min a b ⌝ }
+{
+    if a < b { a } else { b }
+}
+
+// Reads a section's records into four lists, as read does, where the section keeps its rules. A refusal changes no entry.
+pub fn read_section(
+    s: &[u8],
+    tags: &mut [u32],
+    levels: &mut [u32],
+    places: &mut [u32],
+    lengths: &mut [u32],
+) -> Answer
+    ensures answer { λ r. ⌜ r ≡ sectionAnswer (now (s .entry)) (shortest (now (tags .entry)) (now (levels .entry)) (now (places .entry)) (now (lengths .entry))) ⌝ }
+    ensures table { λ r. ⌜ Table (entered r (readAll (now (s .entry)) .recs)) (now (tags .entry)) (now (tags .exit)) (now (levels .entry)) (now (levels .exit)) (now (places .entry)) (now (places .exit)) (now (lengths .entry)) (now (lengths .exit)) ⌝ }
+{
+    let room = lesser(
+        lesser(tags.len(), levels.len()),
+        lesser(places.len(), lengths.len()),
+    );
+    match answer_within(s, room) {
+        Answer::Accepted(_) => read(s, tags, levels, places, lengths),
+        Answer::Refused(r) => Answer::Refused(r),
+    }
+}
