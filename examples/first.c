@@ -8,6 +8,8 @@ int main(void)
     static uint8_t section[65536], sheet[65536 + 8 + 4];
     const uint8_t value[8] = {'0', 0, '.', 0, '4', 0, '8', 0}; /* two bytes for each unit, the lower first */
     size_t length = fread(section, 1, sizeof section, stdin);
+    if (length == sizeof section)
+        return 2; /* maybe cut: longer than this example takes */
 
     uint64_t answer = hwp_fill(section, length, 2002, value, sizeof value, sheet, sizeof sheet);
     if (hwp_number(answer) != HWP_ACCEPTED) {
@@ -15,6 +17,6 @@ int main(void)
                 hwp_words(hwp_number(answer)));
         return 1;
     }
-    fwrite(sheet, 1, hwp_place(answer), stdout); /* of an accepted fill the place is the sheet's length */
-    return 0;
+    size_t sheet_length = hwp_place(answer); /* what stands in the place's column of an accepted fill */
+    return fwrite(sheet, 1, sheet_length, stdout) == sheet_length && !fflush(stdout) ? 0 : 2;
 }
