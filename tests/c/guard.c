@@ -8,6 +8,7 @@
  */
 #define _GNU_SOURCE
 #define PROGRAM "guard"
+#define SAMPLES
 #include "lend.h"
 
 #include "hwp.h"
@@ -327,51 +328,17 @@ static void beginnings(void)
     free(s.bytes);
 }
 
-static struct stream read_sample(const char *folder, const char *name)
+static void sample_is(const char *folder, const struct line *line)
 {
-    char path[1024];
-    struct stream s = new_stream(65536);
-    snprintf(path, sizeof path, "%s/%s", folder, name);
-    FILE *file = fopen(path, "rb");
-    if (!file) {
-        printf(PROGRAM ": cannot read %s\n", path);
-        exit(2);
-    }
-    s.length = fread(s.bytes, 1, 65536, file);
-    fclose(file);
-    return s;
-}
-
-/* Every line of expected.txt that is about a section. */
-static void samples(const char *folder)
-{
-    struct stream lines = read_sample(folder, "expected.txt");
-    unsigned seen = 0;
-    lines.bytes[lines.length] = 0;
-    for (char *line = strtok((char *)lines.bytes, "\n"); line; line = strtok(NULL, "\n")) {
-        char name[128], call[16], id[16];
-        unsigned long long number, place, further;
-        if (*line == '#')
-            continue;
-        if (sscanf(line, "%127s %15s %15s %llu %llu %llu", name, call, id, &number, &place, &further) != 6) {
-            expect(0, line);
-            continue;
-        }
-        uint64_t asked = answer((unsigned)number, place, further);
-        uint32_t field = (uint32_t)strtoul(id, NULL, 10);
-        struct stream s = read_sample(folder, name);
-        if (!strcmp(call, "check"))
-            check_is(name, &s, asked);
-        else if (!strcmp(call, "field"))
-            field_is(name, &s, field, asked);
-        else if (!strcmp(call, "fill"))
-            fill_is(name, &s, field, units(1, '1'), 4096, asked, NULL);
-        seen += strcmp(call, "docinfo") != 0;
-        free(s.bytes);
-    }
-    now = "expected.txt";
-    expect(seen >= 40, "forty answers about sections");
-    free(lines.bytes);
+    struct stream s = read_sample(folder, line->name);
+    uint64_t asked = answer(line->number, line->place, line->further);
+    if (!strcmp(line->call, "check"))
+        check_is(line->name, &s, asked);
+    else if (!strcmp(line->call, "field"))
+        field_is(line->name, &s, line->id, asked);
+    else if (!strcmp(line->call, "fill"))
+        fill_is(line->name, &s, line->id, units(1, '1'), 4096, asked, NULL);
+    free(s.bytes);
 }
 
 static struct value ascii(const char *text)
@@ -425,7 +392,7 @@ int main(int argc, char **argv)
     fill_pairs();
     fill_numbers();
     limits();
-    samples(argv[1]);
+    each_line(argv[1], sample_is);
     filled_samples(argv[1]);
     return result();
 }

@@ -2,7 +2,7 @@
  *
  * Every list and buffer ends right before a page that traps, or starts right behind one, and what a call may only
  * read stands on pages that cannot be written: one entry or byte outside ends the program. Define PROGRAM, and
- * _GNU_SOURCE before any header, then include this.
+ * _GNU_SOURCE before any header, then include this; SAMPLES too where the samples are read.
  */
 #include <signal.h>
 #include <stdint.h>
@@ -99,7 +99,7 @@ struct stream {
     size_t length;
 };
 
-static struct stream new_stream(size_t most)
+static inline struct stream new_stream(size_t most)
 {
     struct stream s = {malloc(most + 1), 0};
     if (!s.bytes)
@@ -107,13 +107,13 @@ static struct stream new_stream(size_t most)
     return s;
 }
 
-static void put_word(struct stream *s, uint32_t word)
+static inline void put_word(struct stream *s, uint32_t word)
 {
     for (int i = 0; i < 4; i++)
         s->bytes[s->length++] = (uint8_t)(word >> 8 * i);
 }
 
-static void put_header(struct stream *s, uint32_t tag, uint32_t level, uint32_t length)
+static inline void put_header(struct stream *s, uint32_t tag, uint32_t level, uint32_t length)
 {
     put_word(s, tag | level << 10 | (length < 4095 ? length : 4095) << 20);
     if (length >= 4095)
@@ -121,9 +121,59 @@ static void put_header(struct stream *s, uint32_t tag, uint32_t level, uint32_t 
 }
 
 /* A record whose body is its tag again and again. */
-static void put_record(struct stream *s, uint32_t tag, uint32_t level, uint32_t length)
+static inline void put_record(struct stream *s, uint32_t tag, uint32_t level, uint32_t length)
 {
     put_header(s, tag, level, length);
     memset(s->bytes + s->length, (int)tag, length);
     s->length += length;
 }
+
+#ifdef SAMPLES
+static struct stream read_sample(const char *folder, const char *name)
+{
+    char path[1024];
+    struct stream s = new_stream(65536);
+    snprintf(path, sizeof path, "%s/%s", folder, name);
+    FILE *file = fopen(path, "rb");
+    if (!file) {
+        printf(PROGRAM ": cannot read %s\n", path);
+        exit(2);
+    }
+    s.length = fread(s.bytes, 1, 65536, file);
+    fclose(file);
+    return s;
+}
+
+/* A line of the samples' expected.txt: what a call answers for a file. */
+struct line {
+    char name[128], call[16];
+    uint32_t id;
+    unsigned number;
+    uint32_t place, further;
+};
+
+static void each_line(const char *folder, void (*visit)(const char *folder, const struct line *line))
+{
+    struct stream lines = read_sample(folder, "expected.txt");
+    unsigned seen = 0;
+    lines.bytes[lines.length] = 0;
+    for (char *at = strtok((char *)lines.bytes, "\n"); at; at = strtok(NULL, "\n")) {
+        struct line line;
+        char id[16];
+        if (*at == '#')
+            continue;
+        now = at;
+        int whole = sscanf(at, "%127s %15s %15s %u %u %u", line.name, line.call, id, &line.number, &line.place,
+                           &line.further) == 6;
+        expect(whole, "a line of expected.txt");
+        if (!whole)
+            continue;
+        line.id = (uint32_t)strtoul(id, NULL, 10);
+        visit(folder, &line);
+        seen++;
+    }
+    now = "expected.txt";
+    expect(seen >= 40, "forty lines");
+    free(lines.bytes);
+}
+#endif
