@@ -1,16 +1,7 @@
-/* Document 01's pairs about records, on the archive that ships.
- *
- * Every list and buffer ends right before a page that traps, or starts right behind one, and what a call may only
- * read stands on pages that cannot be written: one entry or byte outside ends the program.
- */
+/* Document 01's pairs about records, on the archive that ships; all memory is lent against pages that trap. */
 #define _GNU_SOURCE
-#include <signal.h>
-#include <stdint.h>
-#include <stdio.h>
-#include <stdlib.h>
-#include <string.h>
-#include <sys/mman.h>
-#include <unistd.h>
+#define PROGRAM "shipped"
+#include "../c/lend.h"
 
 uint64_t probe_read(const uint8_t *stream, size_t length, uint32_t *tags, size_t tags_length, uint32_t *levels,
                     size_t levels_length, uint32_t *places, size_t places_length, uint32_t *lengths,
@@ -22,72 +13,7 @@ uint64_t probe_pack(uint64_t count, const uint32_t *tags, size_t tags_length, co
                     size_t out_length);
 #endif
 
-#define LIMIT 16777216u
 #define PATTERN 0xC3A55A3Cu
-
-static const char *now = "start";
-static unsigned checks, failed;
-
-static void trapped(int number)
-{
-    static const char text[] = "shipped: FAILED, memory outside was touched: ";
-    ssize_t done = write(1, text, sizeof text - 1);
-    done += write(1, now, strlen(now));
-    done += write(1, "\n", 1);
-    (void)number;
-    _exit(done > 0 ? 1 : 2);
-}
-
-static void expect(int holds, const char *what)
-{
-    checks++;
-    if (!holds) {
-        failed++;
-        printf("shipped: FAILED, %s: %s\n", now, what);
-    }
-}
-
-/* Memory with a trapping page on both sides; the lent part ends at the second, or starts at the first. */
-struct lent {
-    uint8_t *pages;
-    size_t size;
-    uint8_t *part;
-    size_t length;
-};
-
-static struct lent lend(size_t length, int at_end)
-{
-    size_t page = (size_t)sysconf(_SC_PAGESIZE);
-    size_t size = (length + page - 1) / page * page;
-    struct lent lent = {NULL, size + 2 * page, NULL, length};
-    lent.pages = mmap(NULL, lent.size, PROT_NONE, MAP_PRIVATE | MAP_ANONYMOUS, -1, 0);
-    if (lent.pages == MAP_FAILED || (size && mprotect(lent.pages + page, size, PROT_READ | PROT_WRITE))) {
-        printf("shipped: no memory\n");
-        exit(2);
-    }
-    lent.part = lent.pages + page + (at_end ? size - length : 0);
-    return lent;
-}
-
-static void only_read(struct lent lent)
-{
-    size_t page = (size_t)sysconf(_SC_PAGESIZE);
-    if (lent.size > 2 * page && mprotect(lent.pages + page, lent.size - 2 * page, PROT_READ)) {
-        printf("shipped: no protection\n");
-        exit(2);
-    }
-}
-
-static void give_back(struct lent lent) { munmap(lent.pages, lent.size); }
-
-static struct lent given(const void *from, size_t length, int at_end)
-{
-    struct lent lent = lend(length, at_end);
-    if (length)
-        memcpy(lent.part, from, length);
-    only_read(lent);
-    return lent;
-}
 
 static struct lent list(size_t entries, int at_end)
 {
@@ -101,35 +27,6 @@ static struct lent list(size_t entries, int at_end)
 static uint32_t *entries(struct lent lent) { return (uint32_t *)(void *)lent.part; }
 
 static uint64_t answer(unsigned number, uint64_t place) { return number + 256 * place; }
-
-/* A stream in the making. */
-struct stream {
-    uint8_t *bytes;
-    size_t length;
-};
-
-static void put_word(struct stream *s, uint32_t word)
-{
-    for (int i = 0; i < 4; i++)
-        s->bytes[s->length++] = (uint8_t)(word >> 8 * i);
-}
-
-static void put_record(struct stream *s, uint32_t tag, uint32_t level, uint32_t length)
-{
-    put_word(s, tag | level << 10 | (length < 4095 ? length : 4095) << 20);
-    if (length >= 4095)
-        put_word(s, length);
-    memset(s->bytes + s->length, (int)tag, length);
-    s->length += length;
-}
-
-static struct stream new_stream(size_t most)
-{
-    struct stream s = {malloc(most + 1), 0};
-    if (!s.bytes)
-        exit(2);
-    return s;
-}
 
 struct row {
     uint32_t part[4];
@@ -361,16 +258,11 @@ static void pack_limit(void)
 
 int main(void)
 {
-    struct sigaction action;
-    memset(&action, 0, sizeof action);
-    action.sa_handler = trapped;
-    sigaction(SIGSEGV, &action, NULL);
-    sigaction(SIGBUS, &action, NULL);
+    catch_traps();
     read_pairs();
 #ifdef PACK
     pack_pairs();
     pack_limit();
 #endif
-    printf("shipped: %u checks, %u failed\n", checks, failed);
-    return failed != 0;
+    return result();
 }

@@ -1,0 +1,322 @@
+/* spool: a host in C over hwp.h.
+ *
+ *   spool check FILE               is the section sound?
+ *   spool fields FILE ID           the text of the field with the id, as UTF-8
+ *   spool fill FILE ID VALUE OUT   the section with VALUE (UTF-8) in that field, written to OUT
+ *
+ * FILE is a section stream that is already unpacked. ID is decimal, or hexadecimal behind 0x. What was asked for goes
+ * to standard output, everything else to standard error. Exit status: 0 done; 1 refused by the library; 2 wrong use, or
+ * a file that cannot be read or written. OUT has the whole sheet or is as it was.
+ */
+#define _XOPEN_SOURCE 700
+#include <errno.h>
+#include <fcntl.h>
+#include <inttypes.h>
+#include <signal.h>
+#include <stdarg.h>
+#include <stdio.h>
+#include <stdlib.h>
+#include <string.h>
+#include <sys/stat.h>
+#include <unistd.h>
+
+#include "hwp.h"
+
+enum { DONE = 0, REFUSED = 1, WRONG = 2 };
+
+static const char usage[] = "usage: spool check FILE\n"
+                            "       spool fields FILE ID\n"
+                            "       spool fill FILE ID VALUE OUT\n";
+
+static int wrong(const char *format, ...)
+{
+    va_list words;
+    va_start(words, format);
+    fputs("spool: ", stderr);
+    vfprintf(stderr, format, words);
+    fputc('\n', stderr);
+    va_end(words);
+    return WRONG;
+}
+
+/* Number, place in decimal and hexadecimal, and what is wrong. */
+static int refused(const char *file, uint64_t answer)
+{
+    unsigned number = hwp_number(answer);
+    const char *where = hwp_place_words(number);
+    fprintf(stderr, "spool: %s: refused %u at %" PRIu32 " (0x%" PRIx32 "): %s%s%s\n", file, number, hwp_place(answer),
+            hwp_place(answer), hwp_words(number), *where ? "; at that place: " : "", where);
+    return REFUSED;
+}
+
+/* Output is only done once it has left: a full disk is seen here. */
+static int printed(void)
+{
+    if (fflush(stdout) == 0 && !ferror(stdout))
+        return DONE;
+    return wrong("standard output: %s", strerror(errno));
+}
+
+struct bytes {
+    uint8_t *at;
+    size_t len;
+};
+
+/* The whole file. Of one over the limit only as much is read as the library needs to refuse it. */
+static int read_file(const char *name, struct bytes *file)
+{
+    size_t room = 65536;
+    int from = open(name, O_RDONLY);
+    if (from < 0)
+        return wrong("%s: %s", name, strerror(errno));
+    file->len = 0;
+    file->at = malloc(room);
+    while (file->at && file->len <= HWP_STREAM_LIMIT) {
+        if (file->len == room) {
+            uint8_t *more = realloc(file->at, room *= 2);
+            if (!more)
+                break;
+            file->at = more;
+        }
+        ssize_t got = read(from, file->at + file->len, room - file->len);
+        if (got == 0) {
+            close(from);
+            return DONE;
+        }
+        if (got > 0) {
+            file->len += (size_t)got;
+        } else if (errno != EINTR) {
+            int why = errno;
+            close(from);
+            return wrong("%s: %s", name, strerror(why));
+        }
+    }
+    close(from);
+    return file->at && file->len > HWP_STREAM_LIMIT ? DONE : wrong("%s: no memory", name);
+}
+
+static int parse_id(const char *word, uint32_t *id)
+{
+    int hex = word[0] == '0' && (word[1] == 'x' || word[1] == 'X');
+    const char *digits = hex ? word + 2 : word;
+    char *end;
+    errno = 0;
+    unsigned long long n = strtoull(digits, &end, hex ? 16 : 10);
+    size_t plain = strspn(digits, hex ? "0123456789abcdefABCDEF" : "0123456789");
+    if (!*digits || digits[plain] || *end || errno || n > UINT32_MAX)
+        return wrong("%s: an id is a number from 0 to 4294967295, decimal or behind 0x", word);
+    *id = (uint32_t)n;
+    return DONE;
+}
+
+/* The next character of UTF-8 text, or -1 where it is none. */
+static int32_t next_character(const uint8_t **text)
+{
+    static const int32_t least[4] = {0, 0x80, 0x800, 0x10000};
+    const uint8_t *t = *text;
+    int more = t[0] < 0x80 ? 0 : t[0] < 0xC0 ? -1 : t[0] < 0xE0 ? 1 : t[0] < 0xF0 ? 2 : t[0] < 0xF8 ? 3 : -1;
+    if (more < 0)
+        return -1;
+    int32_t c = more == 0 ? t[0] : t[0] & (0x3F >> more);
+    for (int i = 1; i <= more; i++) {
+        if ((t[i] & 0xC0) != 0x80)
+            return -1;
+        c = c << 6 | (t[i] & 0x3F);
+    }
+    *text += more + 1;
+    return c < least[more] || c > 0x10FFFF || (c >= 0xD800 && c < 0xE000) ? -1 : c;
+}
+
+static void put_unit(struct bytes *value, uint32_t unit)
+{
+    value->at[value->len++] = (uint8_t)(unit & 255);
+    value->at[value->len++] = (uint8_t)(unit >> 8);
+}
+
+/* UTF-8 text as units, two bytes each; how many and which the library judges. */
+static int to_units(const char *word, struct bytes *value)
+{
+    const uint8_t *text = (const uint8_t *)word;
+    value->len = 0;
+    value->at = malloc(2 * strlen(word) + 1);
+    if (!value->at)
+        return wrong("no memory");
+    while (*text) {
+        int32_t c = next_character(&text);
+        if (c < 0)
+            return wrong("the value is not UTF-8");
+        if (c < 0x10000) {
+            put_unit(value, (uint32_t)c);
+        } else {
+            put_unit(value, 0xD800 + (uint32_t)(c - 0x10000) / 0x400);
+            put_unit(value, 0xDC00 + (uint32_t)(c - 0x10000) % 0x400);
+        }
+    }
+    return DONE;
+}
+
+static void print_character(uint32_t c)
+{
+    if (c < 0x80) {
+        putchar((int)c);
+    } else if (c < 0x800) {
+        putchar((int)(0xC0 | c >> 6));
+        putchar((int)(0x80 | (c & 0x3F)));
+    } else if (c < 0x10000) {
+        putchar((int)(0xE0 | c >> 12));
+        putchar((int)(0x80 | (c >> 6 & 0x3F)));
+        putchar((int)(0x80 | (c & 0x3F)));
+    } else {
+        putchar((int)(0xF0 | c >> 18));
+        putchar((int)(0x80 | (c >> 12 & 0x3F)));
+        putchar((int)(0x80 | (c >> 6 & 0x3F)));
+        putchar((int)(0x80 | (c & 0x3F)));
+    }
+}
+
+/* Units as UTF-8 and a line feed. What a terminal would act on, and half of a pair, is shown as its number. */
+static void print_units(const uint8_t *units, size_t len)
+{
+    for (size_t i = 0; i + 1 < len; i += 2) {
+        uint32_t unit = units[i] | (uint32_t)units[i + 1] << 8;
+        uint32_t next = i + 3 < len ? units[i + 2] | (uint32_t)units[i + 3] << 8 : 0;
+        if (unit >= 0xD800 && unit < 0xDC00 && next >= 0xDC00 && next < 0xE000) {
+            print_character(0x10000 + (unit - 0xD800) * 0x400 + (next - 0xDC00));
+            i += 2;
+        } else if (unit < 0x20 || (unit >= 0x7F && unit < 0xA0) || (unit >= 0xD800 && unit < 0xE000)) {
+            printf("\\u%04" PRIX32, unit);
+        } else {
+            print_character(unit);
+        }
+    }
+    putchar('\n');
+}
+
+static int write_all(int to, struct bytes file)
+{
+    while (file.len > 0) {
+        ssize_t done = write(to, file.at, file.len);
+        if (done < 0 && errno != EINTR)
+            return -1;
+        if (done > 0) {
+            file.at += done;
+            file.len -= (size_t)done;
+        }
+    }
+    return fsync(to);
+}
+
+/* Writes a file beside OUT and gives it OUT's name when it is whole. A signal waits meanwhile. */
+static int save(const char *out, struct bytes sheet)
+{
+    struct stat old;
+    int there = lstat(out, &old) == 0;
+    if (there && !S_ISREG(old.st_mode))
+        return wrong("%s: there already, and no plain file", out);
+    char *beside = malloc(strlen(out) + 8);
+    if (!beside)
+        return wrong("no memory");
+    sprintf(beside, "%s.XXXXXX", out);
+
+    sigset_t all, before;
+    sigfillset(&all);
+    sigprocmask(SIG_BLOCK, &all, &before);
+    mode_t mask = umask(0);
+    umask(mask);
+    int why = 0, to = mkstemp(beside);
+    if (to < 0) {
+        why = errno;
+    } else {
+        if (fchmod(to, there ? old.st_mode & 0777 : 0666 & ~mask) || write_all(to, sheet))
+            why = errno;
+        if (close(to) && !why)
+            why = errno;
+        if (!why && rename(beside, out))
+            why = errno;
+        if (why)
+            unlink(beside);
+    }
+    sigprocmask(SIG_SETMASK, &before, NULL);
+    free(beside);
+    return why ? wrong("%s: %s", out, strerror(why)) : DONE;
+}
+
+static int check(const char *file)
+{
+    struct bytes section = {NULL, 0};
+    int status = read_file(file, &section);
+    if (status == DONE) {
+        uint64_t answer = hwp_check(section.at, section.len);
+        if (hwp_number(answer) != HWP_ACCEPTED) {
+            status = refused(file, answer);
+        } else {
+            printf("%s: accepted, %" PRIu32 " records\n", file, hwp_place(answer));
+            status = printed();
+        }
+    }
+    free(section.at);
+    return status;
+}
+
+static int fields(const char *file, const char *id_word)
+{
+    struct bytes section = {NULL, 0};
+    uint32_t id = 0;
+    int status = parse_id(id_word, &id);
+    if (status == DONE)
+        status = read_file(file, &section);
+    if (status == DONE) {
+        uint64_t answer = hwp_field_text(section.at, section.len, id);
+        if (hwp_number(answer) != HWP_ACCEPTED) {
+            status = refused(file, answer);
+        } else {
+            print_units(section.at + hwp_place(answer), hwp_further(answer));
+            status = printed();
+        }
+    }
+    free(section.at);
+    return status;
+}
+
+static int fill(const char *file, const char *id_word, const char *word, const char *out)
+{
+    struct bytes section = {NULL, 0}, value = {NULL, 0}, sheet = {NULL, 0};
+    uint32_t id = 0;
+    int status = parse_id(id_word, &id);
+    if (status == DONE)
+        status = to_units(word, &value);
+    if (status == DONE)
+        status = read_file(file, &section);
+    if (status == DONE) {
+        size_t room = section.len + value.len + 4; /* always enough: see hwp_fill */
+        sheet.at = malloc(room);
+        if (!sheet.at) {
+            status = wrong("no memory");
+        } else {
+            uint64_t answer = hwp_fill(section.at, section.len, id, value.at, value.len, sheet.at, room);
+            sheet.len = hwp_place(answer);
+            status = hwp_number(answer) != HWP_ACCEPTED ? refused(file, answer) : save(out, sheet);
+        }
+    }
+    free(section.at);
+    free(value.at);
+    free(sheet.at);
+    return status;
+}
+
+int main(int argc, char **argv)
+{
+    signal(SIGXFSZ, SIG_IGN); /* a file that grows past the limit of the process is then an error of write */
+    if (argc == 3 && !strcmp(argv[1], "check"))
+        return check(argv[2]);
+    if (argc == 4 && !strcmp(argv[1], "fields"))
+        return fields(argv[2], argv[3]);
+    if (argc == 6 && !strcmp(argv[1], "fill"))
+        return fill(argv[2], argv[3], argv[4], argv[5]);
+    if (argc == 2 && (!strcmp(argv[1], "--help") || !strcmp(argv[1], "-h"))) {
+        fputs(usage, stdout);
+        return printed();
+    }
+    fputs(usage, stderr);
+    return WRONG;
+}

@@ -1,0 +1,398 @@
+/* guard.c: the three functions of hwp.h, called as the spool host calls them, with every buffer against pages that trap.
+ *
+ *   guard SAMPLES    SAMPLES is the folder of the samples with its expected.txt
+ *
+ * Document 01's pairs about fills, each number of check, field text and fill at its edge, and every sample. Each call is
+ * made twice, with the buffers before the trapping page and behind it; its answer and every byte of the sheet buffer
+ * are compared.
+ */
+#define _GNU_SOURCE
+#define PROGRAM "guard"
+#define SAMPLES
+#include "lend.h"
+
+#include "hwp.h"
+
+#define BYTE 0xA5
+
+static uint64_t answer(unsigned number, uint64_t place, uint64_t further)
+{
+    return number + 256 * place + (further << 36);
+}
+
+static void check_is(const char *name, const struct stream *s, uint64_t asked)
+{
+    now = name;
+    for (int at_end = 0; at_end < 2; at_end++) {
+        struct lent section = given(s->bytes, s->length, at_end);
+        expect(hwp_check(section.part, s->length) == asked, "answer of check");
+        give_back(section);
+    }
+}
+
+static void field_is(const char *name, const struct stream *s, uint32_t id, uint64_t asked)
+{
+    now = name;
+    for (int at_end = 0; at_end < 2; at_end++) {
+        struct lent section = given(s->bytes, s->length, at_end);
+        expect(hwp_field_text(section.part, s->length, id) == asked, "answer of field text");
+        give_back(section);
+    }
+}
+
+struct value {
+    const uint8_t *bytes;
+    size_t length;
+};
+
+/* One fill: the answer, and every byte of the buffer. Without a sheet it is refused and changes none. */
+static void fill_is(const char *name, const struct stream *s, uint32_t id, struct value v, size_t room, uint64_t asked,
+                    const struct stream *sheet)
+{
+    now = name;
+    for (int at_end = 0; at_end < 2; at_end++) {
+        struct lent section = given(s->bytes, s->length, at_end);
+        struct lent value = given(v.bytes, v.length, at_end);
+        struct lent out = lend(room, at_end);
+        if (room)
+            memset(out.part, BYTE, room);
+        expect(hwp_fill(section.part, s->length, id, value.part, v.length, out.part, room) == asked, "answer of fill");
+        size_t length = sheet ? sheet->length : 0;
+        expect(length <= room && (!length || !memcmp(out.part, sheet->bytes, length)), "the sheet");
+        int kept = 1;
+        for (size_t i = length; i < room; i++)
+            kept &= out.part[i] == BYTE;
+        expect(kept, "bytes behind the sheet");
+        give_back(section);
+        give_back(value);
+        give_back(out);
+    }
+}
+
+/* ---- paragraphs with one field, made by hand ---- */
+
+struct paragraph {
+    unsigned before, value, behind; /* ordinary units before the field, in it and behind its end */
+    uint16_t unit;                  /* what the value is made of */
+    int open;                       /* a tab stands where the field's end belongs */
+    uint32_t starts[4];
+    uint32_t shapes[4];
+    int nstarts;
+    unsigned lines, marks;
+    uint32_t flag; /* bit 31 of the count */
+    uint32_t id;
+    int altered;
+};
+
+static void put_half(struct stream *s, unsigned n)
+{
+    s->bytes[s->length++] = (uint8_t)n;
+    s->bytes[s->length++] = (uint8_t)(n >> 8);
+}
+
+static void put_control(struct stream *s, unsigned code)
+{
+    const unsigned six[6] = {1, 13, 0, 4, 31, 0xFFFF};
+    put_half(s, code);
+    for (int i = 0; i < 6; i++)
+        put_half(s, six[i]);
+    put_half(s, code);
+}
+
+static uint32_t count_of(const struct paragraph *p) { return p->before + 8 + p->value + 8 + p->behind + 1; }
+
+static void put_paragraph(struct stream *s, const struct paragraph *p)
+{
+    uint32_t count = count_of(p);
+    put_header(s, 66, 0, 23);
+    put_word(s, count | p->flag);
+    put_word(s, 0x18);
+    put_word(s, 0x04030201);
+    put_half(s, (unsigned)p->nstarts);
+    put_half(s, p->marks);
+    put_half(s, p->lines);
+    put_word(s, 0x80000001);
+    s->bytes[s->length++] = 0x77; /* a tail behind the 22 bytes */
+    put_header(s, 67, 1, 2 * count);
+    for (unsigned i = 0; i < p->before; i++)
+        put_half(s, 0xAC00 + i % 100);
+    put_control(s, 3);
+    for (unsigned i = 0; i < p->value; i++)
+        put_half(s, p->unit);
+    put_control(s, p->open ? 9 : 4);
+    for (unsigned i = 0; i < p->behind; i++)
+        put_half(s, 'a' + i % 26);
+    put_half(s, 13);
+    put_header(s, 68, 1, 8 * (uint32_t)p->nstarts);
+    for (int i = 0; i < p->nstarts; i++) {
+        put_word(s, p->starts[i]);
+        put_word(s, p->shapes[i]);
+    }
+    if (p->lines)
+        put_record(s, 69, 1, 36 * p->lines);
+    if (p->marks) {
+        put_header(s, 70, 1, 12 * p->marks);
+        for (unsigned i = 0; i < p->marks; i++) {
+            put_word(s, 0);
+            put_word(s, count);
+            put_word(s, 0x0200FFFF);
+        }
+    }
+    put_header(s, 71, 1, 15 + 4 + 2);
+    put_word(s, 0x25636C6B);
+    put_word(s, p->altered ? 0x8001 : 1);
+    s->bytes[s->length++] = 0;
+    put_half(s, 2);
+    put_word(s, 0x00420041);
+    put_word(s, p->id);
+    put_half(s, 0x5555); /* a tail behind the id */
+    put_record(s, 87, 2, 3);
+}
+
+static size_t control_header_of(const struct stream *s) { return s->length - 4 - 21 - 4 - 3; }
+
+static struct stream one(const struct paragraph *p)
+{
+    struct stream s = new_stream(65536);
+    put_paragraph(&s, p);
+    return s;
+}
+
+static struct value units(unsigned count, uint16_t unit)
+{
+    static uint8_t bytes[4096];
+    for (unsigned i = 0; i < count; i++) {
+        bytes[2 * i] = (uint8_t)unit;
+        bytes[2 * i + 1] = (uint8_t)(unit >> 8);
+    }
+    return (struct value){bytes, 2 * (size_t)count};
+}
+
+/* Fills `from` and compares with `to`, which has the value; then asks check and field text of the sheet. */
+static void becomes(const char *name, struct paragraph from, struct paragraph to)
+{
+    struct stream section = one(&from), sheet = one(&to);
+    struct value value = units(to.value, to.unit);
+    size_t text = 4 + 23 + (2 * count_of(&to) < 4095 ? 4 : 8);
+    fill_is(name, &section, from.id, value, sheet.length, answer(0, sheet.length, 0), &sheet);
+    fill_is(name, &section, from.id, value, sheet.length + 9, answer(0, sheet.length, 0), &sheet);
+    fill_is(name, &section, from.id, value, sheet.length - 1, answer(26, 0, 0), NULL);
+    fill_is(name, &section, from.id, value, 0, answer(26, 0, 0), NULL);
+    check_is(name, &sheet, answer(0, to.lines ? 6 : 5, 0));
+    field_is(name, &sheet, to.id, answer(0, text + 2 * (to.before + 8), 2 * to.value));
+    free(section.bytes);
+    free(sheet.bytes);
+}
+
+static void fill_pairs(void)
+{
+    struct paragraph from = {.value = 3, .behind = 8, .unit = '1', .nstarts = 3, .starts = {0, 8, 19}, .shapes = {5, 6, 7}, .id = 7};
+    struct paragraph to = {.value = 4, .behind = 8, .unit = '2', .nstarts = 3, .starts = {0, 12, 20}, .shapes = {5, 6, 7}, .id = 7, .altered = 1};
+    becomes("starts 0, 8, 19", from, to);
+    from.flag = to.flag = 0x80000000u;
+    becomes("starts 0, 8, 19 and the flag", from, to);
+    from.lines = 2;
+    becomes("the line layout goes", from, to);
+    from.altered = 1;
+    becomes("filled again", from, to);
+
+    from = (struct paragraph){.value = 3, .behind = 8, .unit = '1', .nstarts = 3, .starts = {0, 9, 11}, .shapes = {5, 6, 7}, .id = 0xFFFFFFFFu};
+    to = (struct paragraph){.value = 4, .behind = 8, .unit = 32, .nstarts = 2, .starts = {0, 12}, .shapes = {5, 7}, .id = 0xFFFFFFFFu, .altered = 1};
+    becomes("starts 0, 9, 11", from, to);
+    from.nstarts = 2;
+    to = (struct paragraph){.value = 0, .behind = 8, .nstarts = 2, .starts = {0, 8}, .shapes = {5, 6}, .id = 0xFFFFFFFFu, .altered = 1};
+    becomes("starts 0, 9, empty value", from, to);
+    from = to;
+    to = (struct paragraph){.value = 1024, .behind = 8, .unit = 0xFFFF, .nstarts = 2, .starts = {0, 1032}, .shapes = {5, 6}, .id = 0xFFFFFFFFu, .altered = 1};
+    becomes("an empty value to 1,024 units", from, to);
+
+    from = (struct paragraph){.before = 2000, .value = 3, .behind = 27, .unit = '1', .nstarts = 2, .starts = {0, 5}, .shapes = {5, 6}, .id = 0};
+    to = from;
+    to.value = 4;
+    to.altered = 1;
+    becomes("2,047 to 2,048 units", from, to);
+    struct stream shorter = one(&from), longer = one(&to);
+    now = "2,047 to 2,048 units";
+    expect(longer.length == shorter.length + 6, "six bytes longer");
+    free(shorter.bytes);
+    free(longer.bytes);
+    from.altered = 1;
+    becomes("2,048 to 2,047 units", to, from);
+}
+
+static void fill_numbers(void)
+{
+    struct paragraph p = {.value = 3, .behind = 8, .unit = '1', .nstarts = 1, .shapes = {5}, .id = 7};
+    struct stream s = one(&p);
+    struct value good = units(1, '2');
+    uint8_t odd[1] = {65};
+    fill_is("value of one byte", &s, 8, (struct value){odd, 1}, 0, answer(20, 0, 0), NULL);
+    fill_is("unit 31", &s, 8, units(1, 31), 0, answer(20, 0, 0), NULL);
+    fill_is("unit 0", &s, 8, units(1, 0), 0, answer(20, 0, 0), NULL);
+    fill_is("1,025 units", &s, 8, units(1025, '2'), 0, answer(20, 0, 0), NULL);
+    struct value long_odd = units(1024, '2');
+    long_odd.length++;
+    fill_is("1,024 units and a byte", &s, 8, long_odd, 0, answer(20, 0, 0), NULL);
+    good = units(1, '2');
+    fill_is("no such id", &s, 8, good, 0, answer(21, 0, 0), NULL);
+    field_is("no such id", &s, 8, answer(21, 0, 0));
+
+    s.bytes[0] = 15;
+    fill_is("a section that is not sound, and a bad value", &s, 8, units(1, 0), 0, answer(5, 0, 0), NULL);
+    field_is("a section that is not sound", &s, 8, answer(5, 0, 0));
+    s.bytes[0] = 66;
+
+    struct stream twice = new_stream(65536);
+    put_paragraph(&twice, &p);
+    put_paragraph(&twice, &p);
+    size_t second = control_header_of(&twice);
+    good = units(1, '2');
+    fill_is("two fields of one id", &twice, 7, good, 0, answer(22, second, 0), NULL);
+    field_is("two fields of one id", &twice, 7, answer(22, second, 0));
+    free(twice.bytes);
+    free(s.bytes);
+
+    p.open = 1;
+    p.marks = 1;
+    s = one(&p);
+    size_t header = control_header_of(&s);
+    fill_is("not plain, and marks", &s, 7, good, 0, answer(23, header, 0), NULL);
+    field_is("not plain", &s, 7, answer(23, header, 0));
+    free(s.bytes);
+
+    p.open = 0;
+    s = new_stream(65536);
+    put_record(&s, 20, 0, 1); /* so that the paragraph does not stand at 0 */
+    put_paragraph(&s, &p);
+    fill_is("marks", &s, 7, good, 0, answer(24, 5, 0), NULL);
+    free(s.bytes);
+}
+
+/* The stream limit, for the section and for the sheet. */
+static void limits(void)
+{
+    struct paragraph p = {.value = 3, .behind = 8, .unit = '1', .nstarts = 1, .shapes = {5}, .id = 7};
+    struct stream s = new_stream(LIMIT + 64);
+    struct value four = units(4, '2');
+    put_paragraph(&s, &p);
+    uint32_t rest = LIMIT - (uint32_t)s.length - 8;
+    put_record(&s, 20, 0, rest);
+    check_is("the limit", &s, answer(0, 6, 0));
+    fill_is("a sheet over the limit", &s, 7, four, 64, answer(25, 0, 0), NULL);
+    fill_is("a sheet at the limit, no room", &s, 7, units(3, '2'), 64, answer(26, 0, 0), NULL);
+    struct stream sheet = new_stream(LIMIT);
+    p.unit = '2';
+    p.altered = 1;
+    put_paragraph(&sheet, &p);
+    put_record(&sheet, 20, 0, rest);
+    fill_is("a sheet at the limit", &s, 7, units(3, '2'), LIMIT, answer(0, LIMIT, 0), &sheet);
+    s.bytes[s.length++] = 0;
+    check_is("over the limit", &s, answer(1, 0, 0));
+    field_is("over the limit", &s, 7, answer(1, 0, 0));
+    fill_is("over the limit", &s, 7, units(1, 0), 0, answer(1, 0, 0), NULL);
+    free(sheet.bytes);
+    free(s.bytes);
+}
+
+/* Document 01's section of 46 bytes, and every beginning of it. */
+static void beginnings(void)
+{
+    struct stream s = new_stream(64);
+    put_header(&s, 66, 0, 22);
+    put_word(&s, 2);
+    put_word(&s, 0);
+    put_word(&s, 0);
+    put_half(&s, 1);
+    put_word(&s, 0);
+    put_word(&s, 0);
+    put_header(&s, 67, 1, 4);
+    put_half(&s, 'A');
+    put_half(&s, 13);
+    put_header(&s, 68, 1, 8);
+    put_word(&s, 0);
+    put_word(&s, 0);
+    now = "document 01's section";
+    expect(s.length == 46, "46 bytes");
+    for (s.length = 0; s.length <= 46; s.length++) {
+        size_t n = s.length, last = n < 26 ? 0 : n < 34 ? 26 : 34;
+        uint64_t asked = n == 0     ? answer(0, 0, 0)
+                         : n == 46  ? answer(0, 3, 0)
+                         : n == last ? answer(10, 0, 0)
+                         : n < last + 4 ? answer(2, last, 0)
+                                        : answer(4, last, 0);
+        check_is("a beginning of document 01's section", &s, asked);
+        field_is("a beginning of document 01's section", &s, 0, hwp_number(asked) ? asked : answer(21, 0, 0));
+        fill_is("a beginning of document 01's section", &s, 0, units(0, 0), 3,
+                hwp_number(asked) ? asked : answer(21, 0, 0), NULL);
+    }
+    free(s.bytes);
+}
+
+static void sample_is(const char *folder, const struct line *line)
+{
+    struct stream s = read_sample(folder, line->name);
+    uint64_t asked = answer(line->number, line->place, line->further);
+    if (!strcmp(line->call, "check"))
+        check_is(line->name, &s, asked);
+    else if (!strcmp(line->call, "field"))
+        field_is(line->name, &s, line->id, asked);
+    else if (!strcmp(line->call, "fill"))
+        fill_is(line->name, &s, line->id, units(1, '1'), 4096, asked, NULL);
+    free(s.bytes);
+}
+
+static struct value ascii(const char *text)
+{
+    static uint8_t bytes[64];
+    size_t n = strlen(text);
+    for (size_t i = 0; i < n; i++) {
+        bytes[2 * i] = (uint8_t)text[i];
+        bytes[2 * i + 1] = 0;
+    }
+    return (struct value){bytes, 2 * n};
+}
+
+/* The three figures into the water sheet, the week into the long one: what the samples have as filled. */
+static void filled_samples(const char *folder)
+{
+    static const struct {
+        uint32_t id;
+        const char *text;
+    } figures[3] = {{2001, "2024. 6. 14."}, {2002, "0.6"}, {2003, "0.185"}};
+    struct stream sheet = read_sample(folder, "water.section"), goal = read_sample(folder, "water-filled.section");
+    now = "the water sheet";
+    for (int i = 0; i < 3; i++) {
+        struct value value = ascii(figures[i].text);
+        struct stream next = new_stream(65536);
+        size_t room = sheet.length + value.length + 4;
+        uint64_t told = hwp_fill(sheet.bytes, sheet.length, figures[i].id, value.bytes, value.length, next.bytes, room);
+        expect(hwp_number(told) == HWP_ACCEPTED, "a figure");
+        next.length = hwp_place(told);
+        free(sheet.bytes);
+        sheet = next;
+    }
+    expect(sheet.length == goal.length && !memcmp(sheet.bytes, goal.bytes, goal.length), "the filled sheet");
+    free(sheet.bytes);
+    free(goal.bytes);
+    sheet = read_sample(folder, "long.section");
+    goal = read_sample(folder, "long-filled.section");
+    fill_is("the long sheet", &sheet, 2005, ascii("10"), goal.length, answer(0, goal.length, 0), &goal);
+    free(sheet.bytes);
+    free(goal.bytes);
+}
+
+int main(int argc, char **argv)
+{
+    if (argc != 2) {
+        fputs("usage: guard SAMPLES\n", stderr);
+        return 2;
+    }
+    catch_traps();
+    beginnings();
+    fill_pairs();
+    fill_numbers();
+    limits();
+    each_line(argv[1], sample_is);
+    filled_samples(argv[1]);
+    return result();
+}

@@ -1,0 +1,9 @@
+//! Lists a section from standard input as the lister does.
+
+use std::io::{Read, Write};
+
+fn main() -> std::io::Result<()> {
+    let mut input = Vec::new();
+    std::io::stdin().read_to_end(&mut input)?;
+    std::io::stdout().write_all(oracle::list(&input).as_bytes())
+}
