@@ -1,2 +1,3 @@
 pub mod ChainLaws
 pub mod ParagraphReader
+pub mod SectionReader
