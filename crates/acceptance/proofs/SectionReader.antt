@@ -11,7 +11,7 @@ use lib.Dec.{eqb}
 use lib.ListN.{length}
 use borrow.Author.Tests.{eqb-true, eq-eqb, ne-eqb, not-false}
 use Rattle.numbers.specs.Little.{Bytes}
-use Rattle.records.specs.Records.{Rec, limit, size, Encodes}
+use Rattle.records.specs.Records.{Rec, limit, size, Lawful, Encodes}
 use Rattle.records.specs.Reading.{Read, Stands, whole, fault, standsAt, onto, readFrom, readAll}
 use Rattle.records.specs.Table.{readAnswer}
 use Rattle.records.specs.declared.fault.Fault.{Fault}
@@ -28,9 +28,10 @@ use Rattle.section.specs.Parents.{parentOf, doubled, leaf, header, parentIs, mi
 use Rattle.section.specs.Section.{refusalOr, findingOf, paragraphsFault, strayOr, sectionFault, settled, ruled, sectionAnswer, checkAnswer}
 use Rattle.section.proofs.SectionLaws.{section-accepted}
 use Rattle.acceptance.specs.Keeps.{Keeps}
-use Rattle.acceptance.specs.Section.{Placed, AllPlaced, AllKeep, Obeys, IsSection}
+use Rattle.acceptance.specs.Section.{Twin, Placed, AllPlaced, AllKeep, Obeys, IsSection}
 use Rattle.acceptance.proofs.ChainLaws.{both-false, neither}
 use Rattle.acceptance.proofs.ParagraphReader.{keeps-exactly}
+use Rattle.acceptance.proofs.SiblingLaws.{capOf, Stepped, doubled-twin, twin-doubled}
 
 -- ---- rule 9
 
@@ -42,37 +43,52 @@ and-not : (a b : Bool) → (a ≡ true → b ≡ false) → (a && b) ≡ false
 and-not true b h = h refl
 and-not false b h = refl
 
-placed-says : (r : Rec) (earlier : List Rec) → misplaced r earlier ≡ false → Placed r earlier
-unfolding misplaced
-placed-says r earlier e =
-    let up = parentOf (r .level) earlier in
-    let a = both-false (parentIs leaf up) _ e in
-    let b : (leaf (r .tag) ≡ true → (not (parentIs header up) || doubled (r .tag) (r .level) earlier) ≡ false) = and-says (leaf (r .tag)) _ (a .1) in
-    record {
-      below-header = λ l. not-false (parentIs header up) (both-false (not (parentIs header up)) (doubled (r .tag) (r .level) earlier) (b l) .0);
-      single = λ l. both-false (not (parentIs header up)) (doubled (r .tag) (r .level) earlier) (b l) .1;
-      no-leaf-above = a .0;
-    }
+not-both : (b : Bool) → (b ≡ true → ⊥) → b ≡ false
+not-both true h = absurd (h refl)
+not-both false h = refl
 
-placed-not : (r : Rec) (earlier : List Rec) → Placed r earlier → misplaced r earlier ≡ false
-unfolding misplaced
-placed-not r earlier k = neither (k .no-leaf-above) (and-not (leaf (r .tag)) _ (λ l. neither (ap not (k .below-header l)) (k .single l)))
+module _ (r : Rec) (earlier : List Rec) (steps : Stepped earlier) where
+  placed-says : misplaced r earlier ≡ false → Placed r earlier
+  unfolding misplaced
+  placed-says e =
+      let up = parentOf (r .level) earlier in
+      let a = both-false (parentIs leaf up) _ e in
+      let b : (leaf (r .tag) ≡ true → (not (parentIs header up) || doubled (r .tag) (r .level) earlier) ≡ false) = and-says (leaf (r .tag)) _ (a .1) in
+      record {
+        below-header = λ l. not-false (parentIs header up) (both-false (not (parentIs header up)) (doubled (r .tag) (r .level) earlier) (b l) .0);
+        single = λ l w.
+            let d = both-false (not (parentIs header up)) (doubled (r .tag) (r .level) earlier) (b l) .1 in
+            let y : true ≡ false = sym (twin-doubled (r .tag) (r .level) earlier steps w) ∙ d in
+            let z : _≡_ {A = ℕ} 0 1 = cc in
+            omega arith;
+        no-leaf-above = a .0;
+      }
+
+  placed-not : Placed r earlier → misplaced r earlier ≡ false
+  unfolding misplaced
+  placed-not k =
+      neither (k .no-leaf-above)
+      (and-not (leaf (r .tag)) _
+      (λ l.
+      neither (ap not (k .below-header l))
+      (not-both (doubled (r .tag) (r .level) earlier) (λ d. k .single l (doubled-twin (r .tag) (r .level) earlier d)))))
 
 cond-none : (t : Bool) (at : ℕ) (rest : Option ℕ) → cond t (some at) rest ≡ none → (t ≡ false) × (rest ≡ none)
 cond-none true at rest e = absurd (let z : _≡_ {A = ℕ} 0 1 = cc in omega arith)
 cond-none false at rest e = (refl, e)
 
-stray-says : (at : ℕ) (earlier rs : List Rec) → strayFrom at earlier rs ≡ none → AllPlaced earlier rs
+stray-says : (at : ℕ) (earlier rs : List Rec) → Stepped earlier → Lawful (capOf earlier) rs → strayFrom at earlier rs ≡ none → AllPlaced earlier rs
 unfolding strayFrom
-stray-says at earlier [] e = tt
-stray-says at earlier (r ∷ rs) e =
+stray-says at earlier [] w l e = tt
+stray-says at earlier (r ∷ rs) w l e =
     let k = cond-none (misplaced r earlier) at (strayFrom (at + size r) (r ∷ earlier) rs) e in
-    (placed-says r earlier (k .0), stray-says (at + size r) (r ∷ earlier) rs (k .1))
+    (placed-says r earlier w (k .0), stray-says (at + size r) (r ∷ earlier) rs (l .0 .level-cap, w) (l .1) (k .1))
 
-stray-not : (at : ℕ) (earlier rs : List Rec) → AllPlaced earlier rs → strayFrom at earlier rs ≡ none
+stray-not : (at : ℕ) (earlier rs : List Rec) → Stepped earlier → Lawful (capOf earlier) rs → AllPlaced earlier rs → strayFrom at earlier rs ≡ none
 unfolding strayFrom
-stray-not at earlier [] k = refl
-stray-not at earlier (r ∷ rs) k = rw (placed-not r earlier (k .0)) (stray-not (at + size r) (r ∷ earlier) rs (k .1))
+stray-not at earlier [] w l k = refl
+stray-not at earlier (r ∷ rs) w l k =
+    rw (placed-not r earlier w (k .0)) (stray-not (at + size r) (r ∷ earlier) rs (l .0 .level-cap, w) (l .1) (k .1))
 
 -- ---- the paragraphs
 
@@ -111,19 +127,19 @@ stray-or : (o : Option ℕ) (rest : Option Refusal) → strayOr o rest ≡ none 
 stray-or none rest e = (refl, e)
 stray-or (some p) rest e = absurd (let z : _≡_ {A = ℕ} 0 1 = cc in omega arith)
 
-section-says : (rs : List Rec) → sectionFault rs ≡ none → Obeys rs
+section-says : (rs : List Rec) → Lawful 0 rs → sectionFault rs ≡ none → Obeys rs
 unfolding sectionFault
-section-says rs e =
+section-says rs l e =
     let k = stray-or (strayFrom 0 [] rs) (paragraphsFault 0 rs) e in
-    record { placed = stray-says 0 [] rs (k .0); paragraphs = keep-says 0 rs (k .1) }
+    record { placed = stray-says 0 [] rs tt l (k .0); paragraphs = keep-says 0 rs (k .1) }
 
-section-not : (rs : List Rec) → Obeys rs → sectionFault rs ≡ none
+section-not : (rs : List Rec) → Lawful 0 rs → Obeys rs → sectionFault rs ≡ none
 unfolding sectionFault
-section-not rs k = ap (λ (o : Option ℕ). strayOr o (paragraphsFault 0 rs)) (stray-not 0 [] rs (k .placed)) ∙ keep-not 0 rs (k .paragraphs)
+section-not rs l k = ap (λ (o : Option ℕ). strayOr o (paragraphsFault 0 rs)) (stray-not 0 [] rs tt l (k .placed)) ∙ keep-not 0 rs (k .paragraphs)
 
--- the section's rules find nothing exactly when document 01's sentences hold
-pub obeys-exactly : (rs : List Rec) → (sectionFault rs ≡ none) ↔ Obeys rs
-obeys-exactly rs = (section-says rs, section-not rs)
+-- of records that keep the tag and level rules, the section's rules find nothing exactly when document 01's sentences hold
+pub obeys-exactly : (rs : List Rec) → Lawful 0 rs → (sectionFault rs ≡ none) ↔ Obeys rs
+obeys-exactly rs l = (section-says rs l, section-not rs l)
 
 -- ---- check
 
@@ -152,7 +168,7 @@ accepted-section s n bs e =
       within = k .within;
       encodes = k .encodes;
       count = k .count;
-      obeys = section-says (readAll s .recs) (none-of (sectionFault (readAll s .recs)) (sym (ap (ruled (readAll s .recs)) read) ∙ e));
+      obeys = section-says (readAll s .recs) (k .encodes .lawful) (none-of (sectionFault (readAll s .recs)) (sym (ap (ruled (readAll s .recs)) read) ∙ e));
     }
   where
     none-of : (o : Option Refusal) → settled n o ≡ A.Accepted n → o ≡ none
@@ -166,4 +182,4 @@ section-is-accepted s n rs k =
     let same : readAll s .recs ≡ rs = ap (λ (x : Read). x .recs) (stream-records s rs (k .encodes)) in
     let few : length rs ≤ length s = subst (λ (l : List Rec). length l ≤ length s) same (room-enough s) in
     let read = stream-accepted s (length s) n rs (record { within = k .within; encodes = k .encodes; fits = few; count = k .count }) in
-    ap (ruled (readAll s .recs)) read ∙ ap (settled n) (ap sectionFault same ∙ section-not rs (k .obeys))
+    ap (ruled (readAll s .recs)) read ∙ ap (settled n) (ap sectionFault same ∙ section-not rs (k .encodes .lawful) (k .obeys))

@@ -6,15 +6,20 @@ use Prim.Native.Nat.{ℕ, _≤_}
 use lib.ListN.{length}
 use Rattle.records.specs.Records.{Rec, limit, Encodes}
 use Rattle.paragraph.specs.View.{view}
-use Rattle.section.specs.Parents.{parentOf, doubled, leaf, header, parentIs}
+use Rattle.section.specs.Parents.{parentOf, leaf, header, parentIs}
 use Rattle.acceptance.specs.Keeps.{Keeps}
+
+-- among earlier records, the nearest first: one with a tag and a parent. A parent is told by itself and the records before it
+pub data Twin (tag : ℕ) (up : List Rec) : List Rec → Type 0 where
+  here : {q : Rec} {before : List Rec} → q .tag ≡ tag → parentOf (q .level) before ≡ up → Twin tag up (q ∷ before)
+  further : {q : Rec} {before : List Rec} → Twin tag up before → Twin tag up (q ∷ before)
 
 -- of a record r behind some earlier ones, the nearest first
 pub record Placed (r : Rec) (earlier : List Rec) : Type 0 where
   -- records 67 to 70 must be children of a 66
   pub below-header : leaf (r .tag) ≡ true → parentIs header (parentOf (r .level) earlier) ≡ true
-  -- at most one of each
-  pub single : leaf (r .tag) ≡ true → doubled (r .tag) (r .level) earlier ≡ false
+  -- at most one of each: no earlier record with the same parent has its tag
+  pub single : leaf (r .tag) ≡ true → Twin (r .tag) (parentOf (r .level) earlier) earlier → ⊥
   -- and have no children
   pub no-leaf-above : parentIs leaf (parentOf (r .level) earlier) ≡ false
 
