@@ -4,5 +4,3 @@ pub mod FindLaws
 pub mod EntryLaws
 pub mod BodyLaws
 pub mod FieldLaws
-pub mod RuleLaws
-pub mod JudgeLaws

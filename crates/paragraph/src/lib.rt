@@ -3,8 +3,6 @@ mod children;
 mod entries;
 mod fields;
 mod finding;
-mod judge;
-mod rules;
 mod view;
 
 pub use children::Found;
@@ -24,7 +22,5 @@ pub use fields::owned;
 pub use finding::Counts;
 pub use finding::Finding;
 pub use finding::Which;
-pub use judge::judge_paragraph;
-pub use judge::place_in;
 pub use view::Side;
 pub use view::stands_to;

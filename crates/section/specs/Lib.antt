@@ -1,3 +1,4 @@
 pub mod Parents
 pub mod Seats
 pub mod Section
+pub mod Promise

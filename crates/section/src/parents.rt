@@ -1,4 +1,4 @@
-// Where records 67 to 70 stand: rule 9.
+// Where records 67 to 70 stand: rule 9. Its pass keeps 1,025 bytes on the stack, one for each level and one below.
 use records::Front;
 use records::first;
 ghost use mathlib.Core.Path.{_≡_};

@@ -1,9 +1,11 @@
-// Check and the section read.
+// Check and the section read. Two passes over the headers, rule 9 and the paragraphs, follow read's own; each text is walked once, and
+// once more where it has extended controls. A paragraph's children are looked for from its header to its last descendant, so that
+// records in nested paragraphs are passed once for each paragraph around them.
 use crate::parents::Stray;
 use crate::parents::find_stray;
+use judgement::judge_paragraph;
+use judgement::place_in;
 use paragraph::Finding;
-use paragraph::judge_paragraph;
-use paragraph::place_in;
 use records::Answer;
 use records::Fault;
 use records::Front;

@@ -5,7 +5,7 @@ use Rattle.section.proofs.rules.found_at.Statement.{statement}
 use Rattle.section.proofs.rules.found_at.Tie as tie
 use Rattle.section.proofs.rules.found_at.Reads as reads
 use Rattle.section.proofs.rules.found_at.Lts as lts
-use Rattle.paragraph.proofs.judge_paragraph.Reads as judge-paragraph-reads
+use Rattle.judgement.proofs.judge_paragraph.Reads as judge-paragraph-reads
 
 judge-paragraph-requires : tie.Need-judge-paragraph-requires
 judge-paragraph-requires c κs = search needs

@@ -11,7 +11,7 @@ use Rattle.section.proofs.rules.judge_paragraphs.Statement.{statement}
 use Rattle.section.proofs.rules.judge_paragraphs.Tie as tie
 use Rattle.section.proofs.rules.judge_paragraphs.Reads as reads
 use Rattle.section.proofs.rules.judge_paragraphs.Lts as lts
-use Rattle.paragraph.proofs.place_in.Reads as place-in-reads
+use Rattle.judgement.proofs.place_in.Reads as place-in-reads
 use Rattle.records.proofs.refused.Reads as refused-reads
 use Rattle.records.proofs.first.Reads as first-reads
 use Rattle.section.proofs.rules.found_at.Reads as found-at-reads

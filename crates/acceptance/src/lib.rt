@@ -1,0 +1,1 @@
+// What acceptance means, by no order of refusals: theorems only, in proofs/.

@@ -1,0 +1,95 @@
+-- The chain of rules: how a test that holds, and one that does not, leads on. Assumes nothing.
+use Prim.Native.Nat.{ℕ, _-_, _%_}
+use native.Mathlib.Omega.{arith}
+use mathlib.Core.Path.{_≡_, refl, sym, ap, _∙_}
+use mathlib.Core.Bool.{Bool, true, false, _||_, not}
+use mathlib.Core.List.{List, []}
+use mathlib.Core.Option.{Option, none, some}
+use lib.Dec.{leb, eqb}
+use lib.ListN.{length, take, drop}
+use Rattle.numbers.specs.Little.{little}
+use Rattle.numbers.proofs.LittleLaws.{part-rest}
+use Rattle.paragraph.specs.Rules.{countsOf, guard, orElse, ofChild, entryFault, lacks, unwanted, misfits, isSome}
+use Rattle.paragraph.specs.Entries.{entriesOf, shapesFault, marksFault}
+use Rattle.paragraph.specs.Places.{lengthFound}
+use Rattle.records.specs.declared.fault.Fault.the-variants as F
+use Rattle.paragraph.specs.declared.children.Part.{Part}
+use Rattle.paragraph.specs.declared.children.Found.{Found}
+use Rattle.paragraph.specs.declared.children.Found.the-variants as P
+use Rattle.paragraph.specs.declared.entries.Entries.{Entries}
+use Rattle.paragraph.specs.declared.entries.Entries.the-variants as E
+use Rattle.paragraph.specs.declared.finding.Finding.{Finding}
+use Rattle.paragraph.specs.declared.finding.Finding.the-variants as G
+
+pub or-first : {a : Bool} (b : Bool) → a ≡ true → true ≡ (a || b)
+or-first b e = rw e
+
+pub or-next : {a b x : Bool} → a ≡ false → x ≡ b → x ≡ (a || b)
+or-next e q = rw e q
+
+pub guard-taken : {b : Bool} (x rest : Finding) → b ≡ true → x ≡ guard b x rest
+unfolding guard
+guard-taken x rest e = rw e
+
+pub guard-left : {b : Bool} {rest y : Finding} (x : Finding) → b ≡ false → y ≡ rest → y ≡ guard b x rest
+unfolding guard
+guard-left x e q = rw e q
+
+pub else-next : {a rest y : Finding} → a ≡ G.Lawful → y ≡ rest → y ≡ orElse a rest
+unfolding orElse
+else-next e q = rw e q
+
+pub else-first : (a rest : Finding) → (a ≡ G.Lawful → ⊥) → a ≡ orElse a rest
+unfolding orElse
+else-first G.Lawful rest h = absurd (h refl)
+else-first (G.Breach f w) rest h = refl
+
+-- ---- by what a search found
+
+pub lacks-none : (least number : ℕ) (f : Found) → f ≡ P.Nothing → leb least number ≡ lacks least number (lengthFound f)
+lacks-none least number f e = rw e
+
+pub unwanted-there : (number : ℕ) (f : Found) (p : Part) → f ≡ P.At p → eqb number 0 ≡ unwanted number (lengthFound f)
+unwanted-there number f p e = rw e
+
+pub misfits-there : (number asked : ℕ) (f : Found) (p : Part) → f ≡ P.At p → (eqb number 0 || not (eqb (p .length) asked)) ≡ misfits number asked (lengthFound f)
+misfits-there number asked f p e = rw e
+
+-- ---- by what a judge of entries answered
+
+wrong-by : (o : Option ℕ) (i : ℕ) → E.Wrong i ≡ entriesOf o → isSome o ≡ true
+wrong-by none i e = absurd (let z : _≡_ {A = ℕ} 0 1 = cc in omega arith)
+wrong-by (some j) i e = refl
+
+pub wrong : (x : Entries) (o : Option ℕ) (i : ℕ) → x ≡ entriesOf o → x ≡ E.Wrong i → isSome o ≡ true
+wrong x o i e q = wrong-by o i (sym q ∙ e)
+
+sound-by : (o : Option ℕ) → E.Sound ≡ entriesOf o → isSome o ≡ false
+sound-by none e = refl
+sound-by (some j) e = absurd (let z : _≡_ {A = ℕ} 0 1 = cc in omega arith)
+
+pub sound : (x : Entries) (o : Option ℕ) → x ≡ entriesOf o → x ≡ E.Sound → isSome o ≡ false
+sound x o e q = sound-by o (sym q ∙ e)
+
+-- ---- the numbers of a header
+
+pub counts-are : (head : List ℕ) (a b c d : ℕ) → a ≡ little 4 head → b ≡ little 2 (take (length head - 12) (drop 12 head))
+    → c ≡ little 2 (take (length head - 14) (drop 14 head)) → d ≡ little 2 (take (length head - 16) (drop 16 head))
+    → record { count = a % 2147483648; shapes = b; marks = c; lines = d } ≡ countsOf head
+unfolding countsOf
+counts-are head a b c d e f g h = simp (e, f, g, h, part-rest)
+
+-- ---- 13
+
+module _ (count : ℕ) (shapes marks : List ℕ) (x y : Entries) (i : ℕ) (is : x ≡ entriesOf (shapesFault count shapes)) where
+  pub entry-shapes : x ≡ E.Wrong i → ofChild 68 F.EntriesWrong ≡ entryFault count shapes marks
+  unfolding entryFault
+  entry-shapes e = guard-taken _ _ (wrong x (shapesFault count shapes) i is e)
+
+  pub entry-marks : x ≡ E.Sound → y ≡ entriesOf (marksFault count marks) → y ≡ E.Wrong i → ofChild 70 F.EntriesWrong ≡ entryFault count shapes marks
+  unfolding entryFault
+  entry-marks e f g = guard-left _ (sound x (shapesFault count shapes) is e) (guard-taken _ _ (wrong y (marksFault count marks) i f g))
+
+  pub entry-none : x ≡ E.Sound → y ≡ entriesOf (marksFault count marks) → y ≡ E.Sound → G.Lawful ≡ entryFault count shapes marks
+  unfolding entryFault
+  entry-none e f g = guard-left _ (sound x (shapesFault count shapes) is e) (guard-left _ (sound y (marksFault count marks) f g) refl)

@@ -1,0 +1,212 @@
+// The rules of one paragraph, in document 01's order.
+use crate::rules::absent;
+use crate::rules::entry_fault;
+use crate::rules::length_fault;
+use crate::rules::of_child;
+use crate::rules::of_header;
+use numbers::number16;
+use numbers::number32;
+use paragraph::Counts;
+use paragraph::Finding;
+use paragraph::Found;
+use paragraph::Parts;
+use paragraph::Passed;
+use paragraph::Which;
+use paragraph::bytes;
+use paragraph::count_controls;
+use paragraph::find;
+use paragraph::find_parts;
+use paragraph::owned;
+use records::Fault;
+use records::Front;
+use records::Kind;
+use records::first;
+use text::Cursor;
+use text::Judged;
+use text::Step;
+ghost use mathlib.Core.Path.{_≡_};
+ghost use mathlib.Core.Option.{none};
+ghost use Prim.Native.Nat.{_≤_};
+ghost use lib.ListN.{length, drop};
+ghost use Rattle.text.specs.Units.{units};
+ghost use Rattle.text.specs.Walk.{tokens, faultAt, extendedCount};
+ghost use Rattle.paragraph.specs.View.{kids, controls};
+ghost use Rattle.paragraph.specs.Stream.{recordsIn};
+ghost use Rattle.paragraph.specs.Rules as rules;
+ghost use Rattle.paragraph.specs.Places.{bodyFound, textJudged, placeFound, childPlace, placeOf};
+
+// The numbers in a paragraph header's body, which is long enough.
+fn counts(head: &[u8]) -> Counts
+    requires { ⌜ 18 ≤ length (now head) ⌝ }
+    ensures { λ r. ⌜ r ≡ rules.countsOf (now (head .entry)) ⌝ }
+{
+    let count = number32(head) % 2147483648;
+    let shapes = number16(&head[12..]);
+    let marks = number16(&head[14..]);
+    let lines = number16(&head[16..]);
+    Counts {
+        count,
+        shapes,
+        marks,
+        lines,
+    }
+}
+
+// 15: the text's extended controls and the control headers side by side. The text is sound.
+fn field_fault(s: &[u8], from: usize, n: u32, text: &[u8]) -> Finding
+    requires { ⌜ faultAt (units (now text)) 0 ≡ none ⌝ }
+    ensures { λ r. ⌜ r ≡ rules.fieldFault 0 (rules.codesIn (tokens (units (now (text .entry))))) (controls (kids n (recordsIn (drop from (now (s .entry)))))) ⌝ }
+{
+    let mut cursor = Cursor::start();
+    let mut at = from;
+    let mut nth: usize = 0;
+    loop {
+        match cursor.step(text) {
+            Step::Stands { at: _, what, next } => {
+                cursor = next;
+                match owned(s, at, n, what) {
+                    Passed::Nobody => {}
+                    Passed::Behind(end) => {
+                        at = end;
+                        nth = nth + 1;
+                    }
+                    Passed::Short => {
+                        return Finding::Breach {
+                            fault: Fault::FieldHeaderShort,
+                            which: Which::Child {
+                                tag: Kind::CONTROL_HEADER,
+                                nth,
+                            },
+                        };
+                    }
+                    Passed::Lacking => {
+                        return Finding::Lawful;
+                    }
+                }
+            }
+            Step::Broken(_) => {
+                return Finding::Lawful;
+            }
+            Step::End => {
+                return Finding::Lawful;
+            }
+        }
+    }
+}
+
+// 14, then 15. The text is sound and has so many extended controls.
+fn control_fault(s: &[u8], from: usize, n: u32, text: &[u8], extended: usize) -> Finding
+    requires { ⌜ faultAt (units (now text)) 0 ≡ none ⌝ }
+    requires { ⌜ extended ≡ extendedCount (units (now text)) ⌝ }
+    ensures { λ r. ⌜ r ≡ rules.controlFault (units (now (text .entry))) (controls (kids n (recordsIn (drop from (now (s .entry)))))) ⌝ }
+{
+    let headers = count_controls(s, from, n);
+    if headers != extended {
+        return of_header(Fault::ControlsUnmatched);
+    }
+    if extended == 0 {
+        return Finding::Lawful;
+    }
+    field_fault(s, from, n, text)
+}
+
+// The walk of a text, where there is one.
+fn judge_text(f: Found, text: &[u8]) -> Judged
+    ensures { λ r. ⌜ r ≡ textJudged f (now (text .entry)) ⌝ }
+{
+    match f {
+        Found::At(_) => text::judge(text),
+        Found::Nothing => Judged::Sound(0),
+    }
+}
+
+// 12 to 15.
+fn body_fault(s: &[u8], from: usize, n: u32, count: u32, p: Parts) -> Finding
+    ensures { λ r. ⌜ r ≡ rules.bodyFault count (bodyFound (now (s .entry)) (p .text)) (rules.bytesIn (bodyFound (now (s .entry)) (p .shapes))) (rules.bytesIn (bodyFound (now (s .entry)) (p .marks))) (controls (kids n (recordsIn (drop from (now (s .entry)))))) ⌝ }
+{
+    let text = p.text;
+    let shapes = p.shapes;
+    let marks = p.marks;
+    let units = bytes(s, text);
+    match judge_text(text, units) {
+        Judged::Broken(_) => of_child(Kind::TEXT, Fault::TextRule),
+        Judged::Sound(extended) => {
+            match entry_fault(count, bytes(s, shapes), bytes(s, marks)) {
+                Finding::Breach { fault, which } => Finding::Breach { fault, which },
+                Finding::Lawful => control_fault(s, from, n, units, extended),
+            }
+        }
+    }
+}
+
+// 10 to 15.
+fn parts_fault(s: &[u8], from: usize, n: u32, c: Counts) -> Finding
+    ensures { λ r. ⌜ r ≡ rules.partsFault c (kids n (recordsIn (drop from (now (s .entry))))) ⌝ }
+{
+    let p = find_parts(s, from, n);
+    let count = c.count;
+    if absent(c, p) {
+        return of_header(Fault::RecordAbsent);
+    }
+    match length_fault(c, p) {
+        Finding::Breach { fault, which } => Finding::Breach { fault, which },
+        Finding::Lawful => body_fault(s, from, n, count, p),
+    }
+}
+
+// 8 to 15, by the header's body and the records from `from` on.
+fn head_fault(s: &[u8], from: usize, n: u32, head: &[u8]) -> Finding
+    ensures { λ r. ⌜ r ≡ rules.headFault (now (head .entry)) (kids n (recordsIn (drop from (now (s .entry))))) ⌝ }
+{
+    if head.len() < 22 {
+        return of_header(Fault::ParagraphHeaderShort);
+    }
+    parts_fault(s, from, n, counts(head))
+}
+
+// The paragraph whose header stands at the front of s.
+pub fn judge_paragraph(s: &[u8]) -> Finding
+    ensures { λ r. ⌜ r ≡ rules.firstFault (recordsIn (now (s .entry))) ⌝ }
+{
+    match first(s, 1023) {
+        Front::Record(h) => {
+            let lead = h.lead;
+            let from = lead + h.length;
+            let n = h.level + 1;
+            head_fault(s, from, n, &s[lead..from])
+        }
+        Front::Refused(_) => Finding::Lawful,
+    }
+}
+
+fn place_found(f: Found) -> usize
+    ensures { λ r. ⌜ r ≡ placeFound f ⌝ }
+{
+    match f {
+        Found::At(p) => p.at,
+        Found::Nothing => 0,
+    }
+}
+
+fn child_place(s: &[u8], tag: u32, nth: usize) -> usize
+    ensures { λ r. ⌜ (r ≡ childPlace (recordsIn (now (s .entry))) tag nth) × (r ≤ length (now (s .entry))) ⌝ }
+{
+    match first(s, 1023) {
+        Front::Record(h) => {
+            let from = h.lead + h.length;
+            let n = h.level + 1;
+            place_found(find(s, from, n, tag, nth))
+        }
+        Front::Refused(_) => 0,
+    }
+}
+
+// The place of what a fault names, in the paragraph whose header stands at the front of s.
+pub fn place_in(s: &[u8], which: Which) -> usize
+    ensures { λ r. ⌜ (r ≡ placeOf (recordsIn (now (s .entry))) which) × (r ≤ length (now (s .entry))) ⌝ }
+{
+    match which {
+        Which::Header => 0,
+        Which::Child { tag, nth } => child_place(s, tag, nth),
+    }
+}

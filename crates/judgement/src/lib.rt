@@ -1,0 +1,6 @@
+// The rules of one paragraph in document 01's order, over the stream.
+mod judge;
+mod rules;
+
+pub use judge::judge_paragraph;
+pub use judge::place_in;

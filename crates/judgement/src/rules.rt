@@ -1,0 +1,123 @@
+// The rules on numbers and lengths: 10, 11 and 13.
+use paragraph::Counts;
+use paragraph::Entries;
+use paragraph::Finding;
+use paragraph::Found;
+use paragraph::Parts;
+use paragraph::Which;
+use paragraph::judge_marks;
+use paragraph::judge_shapes;
+use records::Fault;
+use records::Kind;
+ghost use mathlib.Core.Path.{_≡_};
+ghost use Rattle.paragraph.specs.Rules as rules;
+ghost use Rattle.paragraph.specs.Places.{lengthFound, lengthsFound};
+
+// A fault that names the child with a tag.
+pub fn of_child(tag: u32, fault: Fault) -> Finding
+    ensures { λ r. ⌜ r ≡ rules.ofChild tag fault ⌝ }
+{
+    Finding::Breach {
+        fault,
+        which: Which::Child { tag, nth: 0 },
+    }
+}
+
+// A fault that names the paragraph header.
+pub fn of_header(fault: Fault) -> Finding
+    ensures { λ r. ⌜ r ≡ rules.ofHeader fault ⌝ }
+{
+    Finding::Breach {
+        fault,
+        which: Which::Header,
+    }
+}
+
+fn lacks(least: u32, number: u32, f: Found) -> bool
+    ensures { λ r. ⌜ r ≡ rules.lacks least number (lengthFound f) ⌝ }
+{
+    match f {
+        Found::At(_) => false,
+        Found::Nothing => least <= number,
+    }
+}
+
+// 10.
+pub fn absent(c: Counts, p: Parts) -> bool
+    ensures { λ r. ⌜ r ≡ rules.absent c (lengthsFound p) ⌝ }
+{
+    let text = p.text;
+    let shapes = p.shapes;
+    let layout = p.layout;
+    let marks = p.marks;
+    if lacks(2, c.count, text) {
+        return true;
+    }
+    if lacks(0, c.shapes, shapes) {
+        return true;
+    }
+    if lacks(1, c.lines, layout) {
+        return true;
+    }
+    lacks(1, c.marks, marks)
+}
+
+fn unwanted(number: u32, f: Found) -> bool
+    ensures { λ r. ⌜ r ≡ rules.unwanted number (lengthFound f) ⌝ }
+{
+    match f {
+        Found::At(_) => number == 0,
+        Found::Nothing => false,
+    }
+}
+
+fn misfits(number: u32, asked: u64, f: Found) -> bool
+    ensures { λ r. ⌜ r ≡ rules.misfits number asked (lengthFound f) ⌝ }
+{
+    match f {
+        Found::At(p) => {
+            let length = p.length as u64;
+            if number == 0 {
+                return true;
+            }
+            length != asked
+        }
+        Found::Nothing => false,
+    }
+}
+
+// 11, in tag order.
+pub fn length_fault(c: Counts, p: Parts) -> Finding
+    ensures { λ r. ⌜ r ≡ rules.lengthFault c (lengthsFound p) ⌝ }
+{
+    let text = p.text;
+    let shapes = p.shapes;
+    let layout = p.layout;
+    let marks = p.marks;
+    if misfits(c.count, 2 * (c.count as u64), text) {
+        return of_child(Kind::TEXT, Fault::LengthWrong);
+    }
+    if misfits(c.shapes, 8 * (c.shapes as u64), shapes) {
+        return of_child(Kind::SHAPES, Fault::LengthWrong);
+    }
+    if unwanted(c.lines, layout) {
+        return of_child(Kind::LAYOUT, Fault::LengthWrong);
+    }
+    if misfits(c.marks, 12 * (c.marks as u64), marks) {
+        return of_child(Kind::MARKS, Fault::LengthWrong);
+    }
+    Finding::Lawful
+}
+
+// 13, shapes and then marks.
+pub fn entry_fault(count: u32, shapes: &[u8], marks: &[u8]) -> Finding
+    ensures { λ r. ⌜ r ≡ rules.entryFault count (now (shapes .entry)) (now (marks .entry)) ⌝ }
+{
+    if let Entries::Wrong(_) = judge_shapes(shapes, count) {
+        return of_child(Kind::SHAPES, Fault::EntriesWrong);
+    }
+    if let Entries::Wrong(_) = judge_marks(marks, count) {
+        return of_child(Kind::MARKS, Fault::EntriesWrong);
+    }
+    Finding::Lawful
+}
