@@ -52,7 +52,7 @@ fn print_records(s: &[u8]) {
 }
 
 fn list(s: &[u8]) {
-    match records::scan(s, s.len()) {
+    match section::check(s) {
         Answer::Accepted(n) => {
             print_records(s);
             print(b"ok ");
