@@ -3,7 +3,7 @@
 
 mod shape;
 
-use compare::cases::sections::hostile;
+use compare::cases::sections::{hostile, HOSTILE};
 use compare::random::Random;
 use oracle::LIMIT;
 use std::hint::black_box;
@@ -258,7 +258,7 @@ fn bench_host() {
         growth(name, &points);
     }
     for (name, service) in services {
-        let section = hostile(&mut Random::new(1), LIMIT);
+        let section = hostile(&mut Random::new(1), HOSTILE);
         line(
             &format!("{name}, deep nesting"),
             section.len(),
@@ -272,7 +272,7 @@ fn main() {
     println!("lists, sheets and copies are allocated once, written over in each round and not cleared between");
     println!("the oracle makes its own vectors in each call");
     bench_read("real shape", &shape::section(LIMIT));
-    bench_read("deep nesting", &hostile(&mut Random::new(1), LIMIT));
+    bench_read("deep nesting", &hostile(&mut Random::new(1), HOSTILE));
     #[cfg(feature = "host")]
     bench_host();
 }
