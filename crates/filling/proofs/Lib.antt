@@ -1,0 +1,16 @@
+pub mod ShapeLaws
+pub mod ShapeCases
+pub mod AnswerLaws
+pub mod ReplacingLaws
+pub mod PackingLaws
+pub mod TextLaws
+pub mod FieldLaws
+pub mod EditLaws
+pub mod PlacingLaws
+pub mod FillLaws
+pub mod SearchLaws
+pub mod OrderLaws
+pub mod KeepLaws
+pub mod AcceptedLaws
+pub mod ChangeLaws
+pub mod FieldTextLaws

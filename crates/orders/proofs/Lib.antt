@@ -1,0 +1,4 @@
+pub mod RoomLaws
+pub mod PlaceLaws
+pub mod CheckLaws
+pub mod Orders
