@@ -28,37 +28,37 @@ abbrev pub codeOf : Standing → ℕ
 codeOf (St.Ordinary u) = u
 codeOf (St.Control c) = c .code
 
-code-what : (u : ℕ) → codeOf (what u) ≡ u
+pub code-what : (u : ℕ) → codeOf (what u) ≡ u
 code-what u = elim (lt-or u 32) [ inl h ↦ rw (what-control u h) | inr h ↦ rw (what-ordinary u h) ]
 
-data Seen (s : Standing) : Type 0 where
+pub data Seen (s : Standing) : Type 0 where
   ordinary : (u : ℕ) → s ≡ St.Ordinary u → Seen s
   field : (c : Control) → s ≡ St.Control c → c .code ≡ 3 → Seen s
   other : (c : Control) → s ≡ St.Control c → (c .code ≡ 3 → ⊥) → Seen s
 
-seen : (s : Standing) → Seen s
+pub seen : (s : Standing) → Seen s
 seen (St.Ordinary u) = ordinary u refl
 seen (St.Control c) = elim (eq-or (c .code) 3) [ inl e ↦ field c refl e | inr e ↦ other c refl e ]
 
 module _ (t : Token) (ts : List Token) where
-  next-ordinary : {u : ℕ} → t .what ≡ St.Ordinary u → next (t ∷ ts) ≡ next ts
+  pub next-ordinary : {u : ℕ} → t .what ≡ St.Ordinary u → next (t ∷ ts) ≡ next ts
   unfolding next
   next-ordinary e = rw (e, next)
 
-  next-control : {c : Control} → t .what ≡ St.Control c → next (t ∷ ts) ≡ some (t .at, c .code)
+  pub next-control : {c : Control} → t .what ≡ St.Control c → next (t ∷ ts) ≡ some (t .at, c .code)
   unfolding next
   next-control e = rw (e, next)
 
-  fields-ordinary : (n : ℕ) {u : ℕ} → t .what ≡ St.Ordinary u → fieldsIn n (t ∷ ts) ≡ fieldsIn n ts
+  pub fields-ordinary : (n : ℕ) {u : ℕ} → t .what ≡ St.Ordinary u → fieldsIn n (t ∷ ts) ≡ fieldsIn n ts
   unfolding fieldsIn
   fields-ordinary n e = rw (e, fieldsIn)
 
-  fields-field : (n : ℕ) {c : Control} → t .what ≡ St.Control c → c .code ≡ 3
+  pub fields-field : (n : ℕ) {c : Control} → t .what ≡ St.Control c → c .code ≡ 3
       → fieldsIn n (t ∷ ts) ≡ fieldAt n (t .at) (next ts) ∷ fieldsIn (isExtended (St.Control c) + n) ts
   unfolding fieldsIn
   fields-field n {c} e h = rw (e, fieldsIn, eq-eqb (c .code) 3 h)
 
-  fields-other : (n : ℕ) {c : Control} → t .what ≡ St.Control c → (c .code ≡ 3 → ⊥)
+  pub fields-other : (n : ℕ) {c : Control} → t .what ≡ St.Control c → (c .code ≡ 3 → ⊥)
       → fieldsIn n (t ∷ ts) ≡ fieldsIn (isExtended (St.Control c) + n) ts
   unfolding fieldsIn
   fields-other n {c} e h = rw (e, fieldsIn, ne-eqb (c .code) 3 h)

@@ -7,31 +7,24 @@ use Rattle.reader.proofs.behind.Reads as reads
 use Rattle.reader.proofs.behind.Lts as lts
 use Rattle.reader.proofs.step_at.Reads as step-at-reads
 
--- src/lib.rt:31:9
 step-at-requires : tie.Need-step-at-requires
 step-at-requires c κs = search needs
 
--- src/lib.rt:36:13
 enum-known-step : tie.Need-enum-known-step
 enum-known-step c = search needs
 
--- src/lib.rt:38:28
 enum-told : tie.Need-enum-told
 enum-told c = search needs
 
--- src/lib.rt:39:22
 enum-told-2 : tie.Need-enum-told-2
 enum-told-2 c = search needs
 
--- src/lib.rt:28:1
 returns : tie.Need-returns
 returns c = ap (onward _) (sym (c .before .before .step .given .1) ∙ c .before .before .before .before .step-at .ensures)
 
--- src/lib.rt:28:1
 returns-2 : tie.Need-returns-2
 returns-2 c = ap (onward _) (sym (c .enum-told .given .1) ∙ c .before .before .step-at .ensures)
 
--- src/lib.rt:28:1
 returns-3 : tie.Need-returns-3
 returns-3 c = ap (onward _) (sym (c .enum-told2 .given .1) ∙ c .before .before .step-at .ensures)
 

@@ -1,0 +1,200 @@
+-- The laws of fill: who may be filled, what its sheet comes to, and the call over a stream. Assumes nothing.
+use Prim.Native.Nat.{ℕ, _+_, _*_, _/_, _≤_, _<_, min}
+use native.Mathlib.Omega.{arith}
+use native.Mathlib.Nat.{zero-add}
+use mathlib.Core.Path.{_≡_, refl, sym, ap, _∙_, subst}
+use mathlib.Core.Bool.{Bool, true, false, cond}
+use mathlib.Core.List.{List, [], _∷_, _++_}
+use lib.ListN.{length, drop}
+use lib.Seq.{sets, sets-eq}
+use lib.Dec.{eqb}
+use borrow.Author.Tests.{eq-eqb, ne-eqb}
+use Rattle.numbers.specs.Little.{Bytes}
+use Rattle.records.specs.Records.{Rec, limit}
+use Rattle.records.specs.Reading.{readAll}
+use Rattle.records.specs.Table.{written}
+use Rattle.records.specs.Answers.{refusedAt}
+use Rattle.records.specs.declared.fault.Fault.the-variants as F
+use Rattle.records.specs.declared.fault.Refusal.{Refusal}
+use Rattle.records.specs.declared.fault.Answer.{Answer}
+use Rattle.records.specs.declared.fault.Answer.the-variants as A
+use Rattle.paragraph.specs.View.{view}
+use Rattle.paragraph.specs.Stream.{recordsIn}
+use Rattle.section.specs.Section.{checkAnswer}
+use Rattle.filling.specs.Search as Search
+use Rattle.filling.specs.Search.{Outcome, one, refused, search, hits}
+use Rattle.filling.specs.Filling.{valueWrong, unmarked, fillable, sheet, fits, fillAnswer, fillBytes}
+use Rattle.filling.proofs.AnswerLaws.{fits-not, fits-room, fits-all}
+use Rattle.writing.specs.Putting.{Puts, largest}
+use Rattle.orders.specs.Calls.{afterSection, fillOf, sheetOf}
+use Rattle.fields.specs.Searching.{told, searchedOf}
+use Rattle.fields.specs.Calls.{leaves, hitSheet}
+use Rattle.fields.specs.Accepted.{Sound}
+use Rattle.fields.specs.declared.search.Hit.{Hit}
+use Rattle.fields.specs.declared.outcome.Searched.{Searched}
+use Rattle.fields.specs.declared.outcome.Searched.the-variants as So
+use Rattle.fields.proofs.AcceptLaws.{sectioned}
+use Rattle.fields.proofs.LocateLaws.{only-one, Located, here-is}
+use Rattle.writing.proofs.CallLaws.{sheet-of-is}
+use Rattle.filling.proofs.KeepLaws.{lawful-view}
+use Rattle.filling.proofs.OrderLaws.{value-right}
+
+-- ---- who may be filled
+
+module _ (id : ℕ) (value : List ℕ) (rs : List Rec) where
+  pub fillable-wrong : valueWrong value ≡ true → So.Refused (record { fault = F.ValueWrong; place = record { 0 = 0 } }) ≡ searchedOf (fillable id value rs)
+  unfolding fillable
+  fillable-wrong e = rw (e, fillable)
+
+  fillable-right : valueWrong value ≡ false → fillable id value rs ≡ unmarked (search id rs)
+  unfolding fillable
+  fillable-right e = rw (e, fillable)
+
+  module _ (right : valueWrong value ≡ false) (x : Searched) (is : x ≡ searchedOf (search id rs)) where
+    pub fillable-refused : (r : Refusal) → x ≡ So.Refused r → So.Refused r ≡ searchedOf (fillable id value rs)
+    unfolding unmarked
+    fillable-refused r e = go (search id rs) refl ∙ sym (ap searchedOf (fillable-right right))
+      where
+        go : (o : Outcome) → search id rs ≡ o → So.Refused r ≡ searchedOf (unmarked (search id rs))
+        go (one h) q = absurd (let z : _≡_ {A = ℕ} 0 1 = cc in omega arith)
+        go (refused f p) q = sym e ∙ is ∙ ap searchedOf q ∙ sym (ap (λ (o : Outcome). searchedOf (unmarked o)) q)
+
+    pub fillable-one : (h : Hit) → x ≡ So.One h → h .marks ≡ 0 → So.One h ≡ searchedOf (fillable id value rs)
+    unfolding unmarked
+    fillable-one h e m = go (search id rs) refl ∙ sym (ap searchedOf (fillable-right right))
+      where
+        go : (o : Outcome) → search id rs ≡ o → So.One h ≡ searchedOf (unmarked (search id rs))
+        go (one k) q =
+            let same : told k ≡ h = cc in
+            let marks : k .marks ≡ 0 = ap (λ (y : Hit). y .marks) same ∙ m in
+            sym (ap So.One same) ∙ sym (ap (λ (o : Outcome). searchedOf (unmarked o)) q ∙ rw (eq-eqb (k .marks) 0 marks))
+        go (refused f p) q = absurd (let z : _≡_ {A = ℕ} 0 1 = cc in omega arith)
+
+    pub fillable-marked : (h : Hit) → x ≡ So.One h → (h .marks ≡ 0 → ⊥)
+        → So.Refused (record { fault = F.MarksInParagraph; place = h .header }) ≡ searchedOf (fillable id value rs)
+    unfolding unmarked
+    fillable-marked h e m = go (search id rs) refl ∙ sym (ap searchedOf (fillable-right right))
+      where
+        go : (o : Outcome) → search id rs ≡ o → So.Refused (record { fault = F.MarksInParagraph; place = h .header }) ≡ searchedOf (unmarked (search id rs))
+        go (one k) q =
+            let same : told k ≡ h = cc in
+            ap (λ (y : Hit). So.Refused (record { fault = F.MarksInParagraph; place = y .header })) (sym same)
+            ∙ sym (ap (λ (o : Outcome). searchedOf (unmarked o)) q ∙ rw (ne-eqb (k .marks) 0 (λ z. m (sym (ap (λ (y : Hit). y .marks) same) ∙ z))))
+        go (refused f p) q = absurd (let z : _≡_ {A = ℕ} 0 1 = cc in omega arith)
+
+-- ---- a sheet of the bytes bs, measured as n, for the buffer out
+
+module _ (bs out : List ℕ) (n : ℕ) (is : n ≡ min largest (length bs)) where
+  pub sheet-long : limit < n → (refusedAt F.SheetTooLong 0 ≡ fits (length bs) (length out)) × (out ≡ written (leaves (refusedAt F.SheetTooLong 0) bs) out)
+  sheet-long h = (sym (fits-not (length bs) (length out) (omega arith)), refl)
+
+  pub sheet-roomless : n ≤ limit → length out < n
+      → (refusedAt F.BufferTooShort 0 ≡ fits (length bs) (length out)) × (out ≡ written (leaves (refusedAt F.BufferTooShort 0) bs) out)
+  sheet-roomless h k = (sym (fits-room (length bs) (length out) (omega arith) (omega arith)), refl)
+
+  pub sheet-put : (next : ℕ) (after : List ℕ) → n ≤ limit → n ≤ length out → Puts out 0 bs next after
+      → (A.Accepted n ≡ fits (length bs) (length out)) × (after ≡ written (leaves (A.Accepted n) bs) out)
+  sheet-put next after h k p =
+      let e : n ≡ length bs = omega arith in (
+        ap A.Accepted e ∙ sym (fits-all (length bs) (length out) (omega arith) (omega arith)),
+        p .after-is ∙ sets-eq bs out 0 (omega arith) ∙ simp zero-add,
+      )
+
+-- with the answer that tells them
+pub told-long : (bs out : List ℕ) (n : ℕ) → n ≡ min largest (length bs) → (r : Answer) → r ≡ refusedAt F.SheetTooLong 0 → limit < n
+    → (r ≡ fits (length bs) (length out)) × (out ≡ written (leaves r bs) out)
+told-long bs out n is r e h = rw e (sheet-long bs out n is h)
+
+pub told-roomless : (bs out : List ℕ) (n : ℕ) → n ≡ min largest (length bs) → (r : Answer) → r ≡ refusedAt F.BufferTooShort 0 → n ≤ limit → length out < n
+    → (r ≡ fits (length bs) (length out)) × (out ≡ written (leaves r bs) out)
+told-roomless bs out n is r e h k = rw e (sheet-roomless bs out n is h k)
+
+-- ---- the fill of a sound section, by what was found
+
+abbrev Outcomes : ℕ → List ℕ → List Rec → List ℕ → Answer → List ℕ → Type 0
+Outcomes id value rs out r after = (r ≡ fillAnswer id value rs (length out)) × (after ≡ written (fillBytes id value rs (length out)) out)
+
+module _ (id : ℕ) (value : List ℕ) (rs : List Rec) (out : List ℕ) (x : Searched) (is : x ≡ searchedOf (fillable id value rs)) where
+  pub fill-refused : (r : Refusal) → x ≡ So.Refused r → Outcomes id value rs out (A.Refused r) out
+  unfolding fillAnswer fillBytes
+  fill-refused r e = go (fillable id value rs) refl
+    where
+      go : (o : Outcome) → fillable id value rs ≡ o → Outcomes id value rs out (A.Refused r) out
+      go (one h) q = absurd (let z : _≡_ {A = ℕ} 0 1 = cc in omega arith)
+      go (refused f p) q =
+          let same : record { fault = f; place = record { 0 = p } } ≡ r = cc in
+          (sym (rw (q, fillAnswer) (ap A.Refused same)), rw (q, fillBytes) refl)
+
+  -- the hit whose sheet is the section's
+  pub fill-one : (h : Hit) (s : List ℕ) (r : Answer) (after : List ℕ) → x ≡ So.One h
+      → ((k : Search.Hit) → fillable id value rs ≡ one k → hitSheet (told k) value s ≡ sheet k value rs)
+      → (r ≡ fits (length (hitSheet h value s)) (length out)) × (after ≡ written (leaves r (hitSheet h value s)) out)
+      → Outcomes id value rs out r after
+  unfolding fillAnswer fillBytes
+  fill-one h s r after e whole put = go (fillable id value rs) refl
+    where
+      left-by : (k : Search.Hit) → fillable id value rs ≡ one k → (a : Answer) → a ≡ fits (length (sheet k value rs)) (length out)
+          → leaves a (sheet k value rs) ≡ fillBytes id value rs (length out)
+      left-by k q (A.Accepted n) w = rw (q, fillBytes, ← w) refl
+      left-by k q (A.Refused z) w = rw (q, fillBytes, ← w) refl
+
+      go : (o : Outcome) → fillable id value rs ≡ o → Outcomes id value rs out r after
+      go (one k) q =
+          let same : told k ≡ h = cc in
+          let the-sheet : hitSheet h value s ≡ sheet k value rs = ap (λ (y : Hit). hitSheet y value s) (sym same) ∙ whole k q in
+          let answer : r ≡ fits (length (sheet k value rs)) (length out) = put .0 ∙ ap (λ (b : List ℕ). fits (length b) (length out)) the-sheet in
+          let left : leaves r (sheet k value rs) ≡ fillBytes id value rs (length out) = left-by k q r answer in (
+            rw (q, fillAnswer) answer,
+            put .1 ∙ ap (λ (b : List ℕ). written b out) (ap (leaves r) the-sheet ∙ left),
+          )
+      go (refused f p) q = absurd (let z : _≡_ {A = ℕ} 0 1 = cc in omega arith)
+
+-- ---- the sheet that is written for a hit is the section's
+
+unmarked-one : (o : Outcome) (k : Search.Hit) → unmarked o ≡ one k → o ≡ one k
+unfolding unmarked
+unmarked-one (one h) k e = go (eqb (h .marks) 0) e
+  where
+    go : (b : Bool) → cond b (one h) (refused F.MarksInParagraph (h .header)) ≡ one k → one h ≡ one k
+    go true q = q
+    go false q = absurd (let z : _≡_ {A = ℕ} 0 1 = cc in omega arith)
+unmarked-one (refused f p) k e = absurd (let z : _≡_ {A = ℕ} 0 1 = cc in omega arith)
+
+fillable-found : (id : ℕ) (value : List ℕ) (rs : List Rec) (k : Search.Hit) → fillable id value rs ≡ one k → (valueWrong value ≡ false) × (search id rs ≡ one k)
+fillable-found id value rs k e = go (valueWrong value) refl
+  where
+    go : (b : Bool) → valueWrong value ≡ b → (valueWrong value ≡ false) × (search id rs ≡ one k)
+    go true q = absurd (let y = fillable-wrong id value rs q ∙ ap searchedOf e in let z : _≡_ {A = ℕ} 0 1 = cc in omega arith)
+    go false q = (q, unmarked-one (search id rs) k (sym (fillable-right id value rs q) ∙ e))
+
+pub hit-sheet : (s : List ℕ) (id : ℕ) (value : List ℕ) → Sound s → length s ≤ limit → Bytes s → (k : Search.Hit) → fillable id value (recordsIn s) ≡ one k
+    → hitSheet (told k) value s ≡ sheet k value (recordsIn s)
+unfolding search view
+hit-sheet s id value a small bs k e =
+    let f = fillable-found id value (recordsIn s) k e in
+    let o = only-one (hits id 0 0 (recordsIn s)) k (f .1) in
+    let l = here-is s bs id k a (o .0) in
+    let head : 22 ≤ length (l .rec .body) = lawful-view (view (l .rec) (l .rs)) (l .lawful) .long in
+    let short = value-right value (f .0) .short in
+    sheet-of-is s bs (a .whole) (omega arith) id k [] (o .0) value (omega arith)
+    (λ r rs q.
+    let same : r ∷ rs ≡ l .rec ∷ l .rs = sym q ∙ ap (λ (p : ℕ). recordsIn (drop p s)) (l .place-is) ∙ l .stands in
+    let first : r ≡ l .rec = cc in
+    subst (λ (x : Rec). 22 ≤ length (x .body)) (sym first) head)
+
+-- ---- the call over a stream
+
+module _ (s : List ℕ) (id : ℕ) (value out : List ℕ) (x : Answer) (is : x ≡ checkAnswer s) where
+  pub call-accepted : (n : ℕ) (r : Answer) (after : List ℕ) → Bytes s → x ≡ A.Accepted n → Outcomes id value (recordsIn s) out r after
+      → (r ≡ fillOf s id value (length out)) × (after ≡ written (sheetOf s id value (length out)) out)
+  unfolding fillOf sheetOf
+  call-accepted n r after bs e put =
+      let g = sectioned s bs n (sym is ∙ e) in
+      let c : checkAnswer s ≡ A.Accepted n = sym is ∙ e in (
+        put .0 ∙ ap (λ (rs : List Rec). fillAnswer id value rs (length out)) (g .records) ∙ sym (rw c refl),
+        put .1 ∙ ap (λ (rs : List Rec). written (fillBytes id value rs (length out)) out) (g .records) ∙ sym (rw (c, sheetOf) refl),
+      )
+
+  pub call-refused : (r : Refusal) → x ≡ A.Refused r → (A.Refused r ≡ fillOf s id value (length out)) × (out ≡ written (sheetOf s id value (length out)) out)
+  unfolding fillOf sheetOf
+  call-refused r e = let c : checkAnswer s ≡ A.Refused r = sym is ∙ e in (sym (rw c refl), sym (rw (c, sheetOf) refl))

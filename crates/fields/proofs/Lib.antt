@@ -1,0 +1,10 @@
+pub mod IdLaws
+pub mod ClosingLaws
+pub mod OwnedLaws
+pub mod PassLaws
+pub mod FitLaws
+pub mod SearchLaws
+pub mod LocateLaws
+pub mod AcceptLaws
+pub mod FillLaws
+pub mod ValueLaws

@@ -1,0 +1,3 @@
+pub mod Searching
+pub mod Accepted
+pub mod Calls

@@ -1,0 +1,78 @@
+// What a search comes to, and the text of a field.
+use crate::search::Hit;
+use crate::search::Met;
+use crate::search::search;
+use filling::TextAnswer;
+use records::Answer;
+use records::Fault;
+use records::Offset;
+use records::Refusal;
+use section::check;
+ghost use mathlib.Core.Path.{_≡_};
+ghost use Rattle.paragraph.specs.Stream.{recordsIn};
+ghost use Rattle.filling.specs.Search as Search;
+ghost use Rattle.filling.specs.Filling.{textAnswer};
+ghost use Rattle.fields.specs.Accepted.{Sound};
+ghost use Rattle.fields.specs.Searching.{searchedOf};
+ghost use Rattle.fields.specs.Calls.{fieldTextAnswer};
+
+// One plain field with the id, or the refusal 21, 22 or 23.
+pub enum Searched {
+    One(Hit),
+    Refused(Refusal),
+}
+
+pub fn no_field(fault: Fault, place: Offset) -> Searched
+    ensures { λ r. ⌜ r ≡ Searched.Refused (record { fault = fault; place = place }) ⌝ }
+{
+    Searched::Refused(Refusal { fault, place })
+}
+
+// The one plain field with the id.
+pub fn find_field(s: &[u8], id: u32) -> Searched
+    requires { ⌜ Sound (now s) ⌝ }
+    ensures { λ r. ⌜ r ≡ searchedOf (Search.search id (recordsIn (now (s .entry)))) ⌝ }
+{
+    match search(s, id) {
+        Met::Nothing => no_field(Fault::NoField, Offset(0)),
+        Met::Twice(second) => no_field(Fault::FieldTwice, second),
+        Met::One(h) => {
+            let field = h.field;
+            if field.plain {
+                Searched::One(h)
+            } else {
+                no_field(Fault::FieldNotPlain, h.control)
+            }
+        }
+    }
+}
+
+// Where the text of the field starts, and how many bytes it has.
+fn text_in(s: &[u8], id: u32) -> TextAnswer
+    requires { ⌜ Sound (now s) ⌝ }
+    ensures { λ r. ⌜ r ≡ textAnswer id (recordsIn (now (s .entry))) ⌝ }
+{
+    match find_field(s, id) {
+        Searched::Refused(r) => TextAnswer::Refused(r),
+        Searched::One(h) => {
+            let text = h.text;
+            let field = h.field;
+            let a = field.a;
+            let b = field.b;
+            TextAnswer::At {
+                place: Offset(text.0 + 2 * a.0),
+                length: 2 * (b.0 - a.0),
+            }
+        }
+    }
+}
+
+// The text of a field: the section's numbers without 7, then 21 to 23, else where it starts and how many bytes it has.
+pub fn field_text(s: &[u8], id: u32) -> TextAnswer
+    ensures { λ r. ⌜ r ≡ fieldTextAnswer (now (s .entry)) id ⌝ }
+{
+    match check(s) {
+        Answer::Accepted(_) => text_in(s, id),
+        Answer::Refused(r) => TextAnswer::Refused(r),
+    }
+}

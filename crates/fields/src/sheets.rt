@@ -1,0 +1,88 @@
+// Fill: the sheet that a section becomes with one field filled (document 01, 'Filling a field').
+use crate::outcome::Searched;
+use crate::outcome::find_field;
+use crate::outcome::no_field;
+use crate::search::Hit;
+use crate::value::value_wrong;
+use records::Answer;
+use records::Fault;
+use records::Offset;
+use records::refused;
+use section::check;
+use writing::measure;
+use writing::write;
+ghost use mathlib.Core.Path.{_≡_};
+ghost use Prim.Native.Nat.{_≤_};
+ghost use lib.ListN.{length};
+ghost use Rattle.records.specs.Records.{limit};
+ghost use Rattle.records.specs.Table.{written};
+ghost use Rattle.paragraph.specs.Stream.{recordsIn};
+ghost use Rattle.filling.specs.Filling.{fillable, fits, fillAnswer, fillBytes};
+ghost use Rattle.writing.specs.Sheet.{fieldOf};
+ghost use Rattle.writing.specs.Sheet as Sheet;
+ghost use Rattle.orders.specs.Calls.{fillOf, sheetOf};
+ghost use Rattle.fields.specs.Accepted.{Sound};
+ghost use Rattle.fields.specs.Searching.{searchedOf};
+ghost use Rattle.fields.specs.Calls.{leaves, hitSheet};
+
+// The field that may be filled: 20, then 21 to 23, then 24.
+fn find_fillable(s: &[u8], id: u32, value: &[u8]) -> Searched
+    requires { ⌜ Sound (now s) ⌝ }
+    ensures { λ r. ⌜ r ≡ searchedOf (fillable id (now (value .entry)) (recordsIn (now (s .entry)))) ⌝ }
+{
+    if value_wrong(value) {
+        return no_field(Fault::ValueWrong, Offset(0));
+    }
+    match find_field(s, id) {
+        Searched::Refused(r) => Searched::Refused(r),
+        Searched::One(h) => {
+            if h.marks == 0 {
+                Searched::One(h)
+            } else {
+                no_field(Fault::MarksInParagraph, h.header)
+            }
+        }
+    }
+}
+
+// The sheet measured, 25 and 26 judged, and the sheet written.
+fn put_sheet(s: &[u8], h: Hit, value: &[u8], out: &mut [u8]) -> Answer
+    ensures { λ r. ⌜ (r ≡ fits (length (hitSheet h (now (value .entry)) (now (s .entry)))) (length (now (out .entry)))) × (now (out .exit) ≡ written (leaves r (hitSheet h (now (value .entry)) (now (s .entry)))) (now (out .entry))) ⌝ }
+{
+    let field = h.field;
+    let header = h.header;
+    let a = field.a;
+    let b = field.b;
+    let n = measure(s, header, field.ordinal, a, b, value);
+    if 16777216 < n {
+        return refused(Fault::SheetTooLong, 0);
+    }
+    if out.len() < n {
+        return refused(Fault::BufferTooShort, 0);
+    }
+    write(out, s, header, field.ordinal, a, b, value);
+    Answer::Accepted(n)
+}
+
+// The fill of a section that check accepted.
+fn fill_in(s: &[u8], id: u32, value: &[u8], out: &mut [u8]) -> Answer
+    requires { ⌜ Sound (now s) × (length (now s) ≤ limit) ⌝ }
+    ensures { λ r. ⌜ (r ≡ fillAnswer id (now (value .entry)) (recordsIn (now (s .entry))) (length (now (out .entry)))) × (now (out .exit) ≡ written (fillBytes id (now (value .entry)) (recordsIn (now (s .entry))) (length (now (out .entry)))) (now (out .entry))) ⌝ }
+{
+    match find_fillable(s, id, value) {
+        Searched::Refused(r) => Answer::Refused(r),
+        Searched::One(h) => put_sheet(s, h, value, out),
+    }
+}
+
+// Fills the field with the id: the section's numbers without 7, then 20 to 26, else the length of the sheet, which stands at the front
+// of out. Bytes past it stay; a refusal changes no byte.
+pub fn fill(s: &[u8], id: u32, value: &[u8], out: &mut [u8]) -> Answer
+    ensures answer { λ r. ⌜ r ≡ fillOf (now (s .entry)) id (now (value .entry)) (length (now (out .entry))) ⌝ }
+    ensures sheet { λ _. ⌜ now (out .exit) ≡ written (sheetOf (now (s .entry)) id (now (value .entry)) (length (now (out .entry)))) (now (out .entry)) ⌝ }
+{
+    match check(s) {
+        Answer::Accepted(_) => fill_in(s, id, value, out),
+        Answer::Refused(r) => Answer::Refused(r),
+    }
+}

@@ -1,0 +1,74 @@
+-- Count, number of shapes and lines are new, all else as it was. Assumes nothing.
+use Rattle.writing.proofs.HeadLaws.{head-length, head-bytes}
+use Rattle.writing.proofs.ChildLaws.{puts-record}
+use Rattle.writing.proofs.PuttingLaws.{puts-as, puts-then}
+use borrow.Author.Needs.{needs}
+use Rattle.writing.proofs.head.put_paragraph.Statement.{statement}
+use Rattle.writing.proofs.head.put_paragraph.Tie as tie
+use Rattle.writing.proofs.head.put_paragraph.Reads as reads
+use Rattle.writing.proofs.head.put_paragraph.Lts as lts
+use Rattle.numbers.proofs.number32.Reads as number32-reads
+use Rattle.writing.proofs.head.recount.Reads as recount-reads
+use Rattle.writing.proofs.put.put_head.Reads as put-head-reads
+use Rattle.writing.proofs.put.put_low.Reads as put-low-reads
+use Rattle.writing.proofs.put.put_part.Reads as put-part-reads
+use Rattle.writing.proofs.shapes.wide.Reads as wide-reads
+
+number32-requires : tie.Need-number32-requires
+number32-requires c κs = search needs
+
+wide-requires : tie.Need-wide-requires
+wide-requires c κs = search needs
+
+recount-requires : tie.Need-recount-requires
+recount-requires c κs = search needs
+
+put-head-requires : tie.Need-put-head-requires
+put-head-requires c κs = search needs
+
+put-low-requires : tie.Need-put-low-requires
+put-low-requires c κs = search needs
+
+put-part-requires : tie.Need-put-part-requires
+put-part-requires c κs = search needs
+
+put-low-requires-2 : tie.Need-put-low-requires-2
+put-low-requires-2 c κs = search needs
+
+put-part-requires-2 : tie.Need-put-part-requires-2
+put-part-requires-2 c κs = search needs
+
+put-low-requires-3 : tie.Need-put-low-requires-3
+put-low-requires-3 c κs = search needs
+
+put-part-requires-3 : tie.Need-put-part-requires-3
+put-part-requires-3 c κs = search needs
+
+same-length : tie.Need-same-length
+same-length c = search needs
+
+returns : tie.Need-returns
+returns c = let a = c .before .before .before .before .before .before .before .before .before .before .before .before .before .before .before .before .before .before .before .before .before .before .before .before .before .before .before .before .before .before .before .before .before .args in
+    puts-record _ _ (head-length (a .a) (a .b) (a .v) (a .shapes) (a .body .now) (c .before .before .before .before .before .before .before .before .before .before .before .before .before .before .before .before .before .before .before .before .before .before .before .before .before .before .before .before .before .before .before .before .before .pre .0)) (c .before .before .before .before .before .before .before .before .before .before .before .before .before .before .before .before .before .before .before .before .before .before .before .before .before .before .put-head .ensures)
+    (puts-as (head-bytes (a .a) (a .b) (a .v) (a .shapes) (a .body .now) (c .before .before .before .before .before .before .before .before .before .before .before .before .before .before .before .before .before .before .before .before .before .before .before .before .before .before .before .before .before .before .before .before .before .pre .0) (c .before .before .before .before .before .before .before .before .before .before .before .before .before .before .before .before .before .before .before .before .before .before .before .before .before .before .before .before .before .before .number32 .ensures) (c .before .before .before .before .before .before .before .before .before .before .before .before .before .before .before .before .before .before .before .before .before .before .before .before .before .before .before .before .before .wide .ensures .0) (c .before .before .before .before .before .before .before .before .before .before .before .before .before .before .before .before .before .before .before .before .before .before .before .before .before .before .before .before .recount .ensures))
+    (puts-then (c .before .before .before .before .before .before .before .before .before .before .before .before .before .before .before .before .before .before .before .before .before .before .put-low .ensures)
+    (puts-then (c .before .before .before .before .before .before .before .before .before .before .before .before .before .before .before .before .before .before .put-part .ensures)
+    (puts-then (c .before .before .before .before .before .before .before .before .before .before .before .before .before .before .put-low2 .ensures)
+    (puts-then (c .before .before .before .before .before .before .before .before .before .before .put-part2 .ensures) (puts-then (c .before .before .before .before .before .before .put-low3 .ensures) (c .before .before .put-part3 .ensures)))))))
+
+pub put-paragraph-spec : {M : Type 1} → statement M
+put-paragraph-spec =
+    tie.close
+    (tie.spec
+    number32-requires
+    wide-requires
+    recount-requires
+    put-head-requires
+    put-low-requires
+    put-part-requires
+    put-low-requires-2
+    put-part-requires-2
+    put-low-requires-3
+    put-part-requires-3
+    same-length
+    returns)

@@ -1,0 +1,83 @@
+// Bytes put one behind the other into a buffer. What has no room is not written, and is counted all the same.
+use numbers::put_all;
+use numbers::put32;
+use pack::put_header;
+ghost use mathlib.Core.Path.{_≡_};
+ghost use Prim.Native.Nat.{_+_, min};
+ghost use lib.ListN.{length, take, drop};
+ghost use Rattle.numbers.specs.Little.{bytesOf};
+ghost use Rattle.records.specs.Records.{leadOf, headerOf};
+ghost use Rattle.writing.specs.Putting.{largest, Puts};
+
+// The place behind n bytes, or the largest number that there is.
+fn ahead(at: usize, n: usize) -> usize
+    ensures { λ r. ⌜ r ≡ min largest (at + n) ⌝ }
+{
+    let room = 18446744073709551615 - at;
+    if room < n {
+        18446744073709551615
+    } else {
+        at + n
+    }
+}
+
+// Of the bytes from `from` on the first n, as far as there are any.
+pub fn part<'a>(s: &'a [u8], from: usize, n: usize) -> &'a [u8]
+    ensures { λ r. ⌜ now r ≡ take n (drop from (now (s .entry))) ⌝ }
+{
+    if s.len() < from {
+        return &s[0..0];
+    }
+    let left = s.len() - from;
+    if left < n {
+        return &s[from..];
+    }
+    let end = from + n;
+    &s[from..end]
+}
+
+// Puts s at `at`, and hands out the place behind it.
+pub fn put_run(out: &mut [u8], at: usize, s: &[u8]) -> usize
+    ensures { λ r. ⌜ Puts (now (out .entry)) at (now (s .entry)) r (now (out .exit)) ⌝ }
+{
+    let next = ahead(at, s.len());
+    if at < out.len() {
+        let room = out.len() - at;
+        let fitting = part(s, 0, room);
+        put_all(&mut out[at..], fitting);
+        return next;
+    }
+    next
+}
+
+// Puts a part of s.
+pub fn put_part(out: &mut [u8], at: usize, s: &[u8], from: usize, n: usize) -> usize
+    ensures { λ r. ⌜ Puts (now (out .entry)) at (take n (drop from (now (s .entry)))) r (now (out .exit)) ⌝ }
+{
+    put_run(out, at, part(s, from, n))
+}
+
+// Puts the lowest n bytes of a number of 32 bits.
+pub fn put_low(out: &mut [u8], at: usize, w: usize, n: usize) -> usize
+    ensures { λ r. ⌜ Puts (now (out .entry)) at (take n (bytesOf 4 w)) r (now (out .exit)) ⌝ }
+{
+    let mut four = [0u8; 4];
+    put32(&mut four, (w % 4294967296) as u32);
+    put_part(out, at, &four, 0, n)
+}
+
+// How many bytes a header takes before a body of this length.
+fn lead(length: usize) -> usize
+    ensures { λ r. ⌜ r ≡ leadOf length ⌝ }
+{
+    if length < 4095 { 4 } else { 8 }
+}
+
+// Puts the header of a body of this length.
+pub fn put_head(out: &mut [u8], at: usize, tag: u32, level: u32, length: usize) -> usize
+    ensures { λ r. ⌜ Puts (now (out .entry)) at (headerOf tag level length) r (now (out .exit)) ⌝ }
+{
+    let mut eight = [0u8; 8];
+    put_header(&mut eight, tag, level, length);
+    put_part(out, at, &eight, 0, lead(length))
+}
