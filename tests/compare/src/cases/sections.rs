@@ -106,7 +106,7 @@ pub fn hostile(random: &mut Random, length: usize) -> Vec<u8> {
 
 /// Check goes over the records below a paragraph for each paragraph above them, so hostile nesting is kept short here;
 /// the benchmark measures it (docs/DECISIONS.md has the bound).
-pub const HOSTILE: usize = 400_000;
+pub const HOSTILE: usize = 100_000;
 
 /// The number of kinds of long sections.
 pub const LONG_KINDS: usize = 6;
