@@ -1,3 +1,4 @@
 pub mod Searching
 pub mod Accepted
 pub mod Calls
+pub mod Promise

@@ -2,3 +2,4 @@ pub mod RoomLaws
 pub mod PlaceLaws
 pub mod CheckLaws
 pub mod Orders
+pub mod Pairs
