@@ -1,17 +1,10 @@
 -- The host's form of an answer with a further number. Assumes nothing.
-use Prim.Native.Nat.{ℕ, _+_, _*_, _≤_, _<_}
+use Prim.Native.Nat.{ℕ, _+_, _*_}
 use native.Mathlib.Omega.{arith}
-use mathlib.Core.Path.{_≡_, refl, sym, ap, _∙_}
+use mathlib.Core.Path.{_≡_}
 use Rattle.records.specs.Answers.{placeBits, hostForm}
-use Rattle.records.specs.declared.fault.Answer.{Answer}
-use Rattle.filling.specs.Filling.{textNumber, textPlace, textLength}
-use Rattle.filling.specs.declared.TextAnswer.{TextAnswer}
 
 module _ (p n : ℕ) {h b : ℕ} (form : h ≡ hostForm 0 p 0) (bits : b ≡ placeBits n) where
-  pub told-small : h + 68719476736 * b < 18446744073709551616
-  unfolding hostForm
-  told-small = omega (arith, form, bits)
-
   pub told-at : h + 68719476736 * b ≡ hostForm 0 p n
   unfolding hostForm
   told-at = omega (arith, form, bits)

@@ -1,8 +1,9 @@
+use native.Mathlib.Omega.{arith}
 use mathlib.Core.Path.{sym, ap, _∙_}
 use Rattle.records.specs.Answers.{hostForm}
 use Rattle.filling.specs.Filling.{textNumber, textPlace, textLength}
 use Rattle.filling.specs.declared.TextAnswer.{TextAnswer}
-use Rattle.host.proofs.ToldLaws.{told-small, told-at}
+use Rattle.host.proofs.ToldLaws.{told-at}
 use borrow.Author.Needs.{needs}
 use Rattle.host.proofs.told.Statement.{statement}
 use Rattle.host.proofs.told.Tie as tie
@@ -24,7 +25,8 @@ mul-result : tie.Need-mul-result
 mul-result c = search needs
 
 add-result : tie.Need-add-result
-add-result c = record { fits = told-small _ _ (c .before .host .ensures) (c .bits .ensures .0) }
+unfolding hostForm
+add-result c = record { fits = omega (arith, c .before .host .ensures, c .bits .ensures .1) }
 
 enum-known-answer-2 : tie.Need-enum-known-answer-2
 enum-known-answer-2 c = search needs
