@@ -1,0 +1,135 @@
+/* wrong.c: document 01's wrong parts ('What acceptance of a promise means'), each of which the C tests have to catch.
+ *
+ * It is linked between a test and the right library by the linker's --wrap: the test's hwp_fill is __wrap_hwp_fill, and
+ * __real_hwp_fill is the library's. PART names the wrong part. Each is right in all but its one fault, so that nothing
+ * else gives it away; RIGHT has none.
+ */
+#include <string.h>
+
+#include "hwp.h"
+
+#ifndef PART
+#define PART RIGHT
+#endif
+
+enum part {
+    RIGHT,
+    REFUSES_ALL,
+    CONSTANT_COUNT, /* the number of records of the first section that was accepted */
+    CONSTANT_SHEET, /* the first sheet */
+    TEMPLATE_BACK,
+    FILLS_FIRST,    /* the first call fills, later ones copy */
+    FILLS_NEW,      /* a call copies where it asks for the same as the one before it */
+    COUNT_GUESSED,  /* from the number of bytes, as if every record had 23 */
+    LENGTH_GUESSED, /* as if the value were put in beside the old one */
+};
+
+uint64_t __real_hwp_check(const uint8_t *section, size_t section_len);
+uint64_t __real_hwp_field_text(const uint8_t *section, size_t section_len, uint32_t id);
+uint64_t __real_hwp_fill(const uint8_t *section, size_t section_len, uint32_t id, const uint8_t *value,
+                         size_t value_len, uint8_t *sheet, size_t sheet_len);
+uint64_t __wrap_hwp_check(const uint8_t *section, size_t section_len);
+uint64_t __wrap_hwp_field_text(const uint8_t *section, size_t section_len, uint32_t id);
+uint64_t __wrap_hwp_fill(const uint8_t *section, size_t section_len, uint32_t id, const uint8_t *value,
+                         size_t value_len, uint8_t *sheet, size_t sheet_len);
+
+static uint64_t accepted(uint64_t place) { return 256 * place; }
+
+uint64_t __wrap_hwp_check(const uint8_t *section, size_t section_len)
+{
+    static uint64_t first;
+    uint64_t told = __real_hwp_check(section, section_len);
+    if (hwp_number(told) != HWP_ACCEPTED)
+        return told;
+    if (!first)
+        first = told;
+    switch (PART) {
+    case REFUSES_ALL:
+        return HWP_STREAM_TOO_LONG;
+    case CONSTANT_COUNT:
+        return first;
+    case COUNT_GUESSED:
+        return accepted(section_len / 23);
+    default:
+        return told;
+    }
+}
+
+uint64_t __wrap_hwp_field_text(const uint8_t *section, size_t section_len, uint32_t id)
+{
+    uint64_t told = __real_hwp_field_text(section, section_len, id);
+    return PART == REFUSES_ALL && hwp_number(told) == HWP_ACCEPTED ? HWP_STREAM_TOO_LONG : told;
+}
+
+/* What is kept from one call to the next. */
+struct bytes {
+    uint8_t at[HWP_STREAM_LIMIT];
+    size_t length;
+};
+
+static int same(const struct bytes *kept, const uint8_t *bytes, size_t length)
+{
+    return kept->length == length && !memcmp(kept->at, bytes, length);
+}
+
+static void keep(struct bytes *kept, const uint8_t *bytes, size_t length)
+{
+    memcpy(kept->at, bytes, length);
+    kept->length = length;
+}
+
+/* Whether this fill asks for what the one before it asked for. */
+static int asked_again(const uint8_t *section, size_t section_len, uint32_t id, const uint8_t *value, size_t value_len)
+{
+    static struct bytes last_section, last_value;
+    static uint32_t last_id;
+    int again = last_id == id && same(&last_section, section, section_len) && same(&last_value, value, value_len);
+    keep(&last_section, section, section_len);
+    keep(&last_value, value, value_len);
+    last_id = id;
+    return again;
+}
+
+static uint64_t hand_out(const uint8_t *bytes, size_t length, uint8_t *sheet, size_t sheet_len)
+{
+    if (sheet_len < length)
+        return HWP_BUFFER_TOO_SHORT;
+    memcpy(sheet, bytes, length);
+    return accepted(length);
+}
+
+uint64_t __wrap_hwp_fill(const uint8_t *section, size_t section_len, uint32_t id, const uint8_t *value,
+                         size_t value_len, uint8_t *sheet, size_t sheet_len)
+{
+    static struct bytes right, first;
+    size_t room = sheet_len < sizeof right.at ? sheet_len : sizeof right.at;
+    uint64_t told = __real_hwp_fill(section, section_len, id, value, value_len, right.at, room);
+    if (hwp_number(told) != HWP_ACCEPTED)
+        return told;
+    right.length = hwp_place(told);
+    int later = first.length != 0;
+    if (!later)
+        keep(&first, right.at, right.length);
+    switch (PART) {
+    case REFUSES_ALL:
+        return HWP_STREAM_TOO_LONG;
+    case CONSTANT_SHEET:
+        return hand_out(first.at, first.length, sheet, sheet_len);
+    case TEMPLATE_BACK:
+        return hand_out(section, section_len, sheet, sheet_len);
+    case FILLS_FIRST:
+        if (later)
+            return hand_out(section, section_len, sheet, sheet_len);
+        break;
+    case FILLS_NEW:
+        if (asked_again(section, section_len, id, value, value_len))
+            return hand_out(section, section_len, sheet, sheet_len);
+        break;
+    case LENGTH_GUESSED:
+        hand_out(right.at, right.length, sheet, sheet_len);
+        return accepted(section_len + value_len);
+    default:
+        break;
+    }
+    return hand_out(right.at, right.length, sheet, sheet_len);
+}
