@@ -96,7 +96,8 @@ uint64_t hwp_field_text(const uint8_t *section, size_t section_len, uint32_t id)
  *   - a record whose length passes 4,095 has the header that its new length asks for.
  * An accepted sheet is itself accepted by hwp_check, and hwp_field_text finds the value in it.
  *
- * A sheet never has more than section_len + value_len + 4 bytes: with that room 26 is not given.
+ * A sheet never has more than section_len + value_len + 4 bytes: with that room 26 is not given. Both are theorems
+ * (accepted-length and enough-room in crates/orders/proofs/Room.antt).
  *
  * Refusals, in this order: those of hwp_check; 20 (an odd number of bytes too), 21, 22, 23, 24, 25, 26.
  */

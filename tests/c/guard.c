@@ -220,6 +220,22 @@ static void fill_pairs(void)
     becomes("2,048 to 2,047 units", to, from);
 }
 
+/* The most that a sheet can have: the text passes 4,095 bytes, and nothing of the section gives way. */
+static void longest_sheet(void)
+{
+    struct paragraph from = {.before = 2000, .behind = 30, .nstarts = 1, .shapes = {5}, .id = 7};
+    struct paragraph to = from;
+    to.value = 1;
+    to.unit = '1';
+    to.altered = 1;
+    becomes("the longest sheet", from, to);
+    struct stream section = one(&from), sheet = one(&to);
+    now = "the longest sheet";
+    expect(sheet.length == section.length + 2 + 4, "section, value and four bytes");
+    free(section.bytes);
+    free(sheet.bytes);
+}
+
 static void fill_numbers(void)
 {
     struct paragraph p = {.value = 3, .behind = 8, .unit = '1', .nstarts = 1, .shapes = {5}, .id = 7};
@@ -390,6 +406,7 @@ int main(int argc, char **argv)
     catch_traps();
     beginnings();
     fill_pairs();
+    longest_sheet();
     fill_numbers();
     limits();
     each_line(argv[1], sample_is);

@@ -31,7 +31,7 @@ both-false false b e = (refl, e)
 pub neither : {a b : Bool} → a ≡ false → b ≡ false → (a || b) ≡ false
 neither e f = rw (e, f)
 
-both-true : (a b : Bool) → (a && b) ≡ true → (a ≡ true) × (b ≡ true)
+pub both-true : (a b : Bool) → (a && b) ≡ true → (a ≡ true) × (b ≡ true)
 both-true true b e = (refl, e)
 both-true false b e = absurd (differ (sym e))
 

@@ -1,13 +1,13 @@
--- Check never gives 7 (document 01: 'the same numbers but 7'). Assumes nothing.
+-- Check never gives 7 (document 01: 'the same numbers but 7'), nor a number above 15. Assumes nothing.
 use Prim.Native.Nat.{ℕ, zero, suc, _+_, _-_, _/_, _%_, _≤_, _<_}
 use native.Mathlib.Omega.{arith}
 use mathlib.Core.Path.{_≡_, refl, sym, ap, _∙_, subst}
-use mathlib.Core.Bool.{Bool, true, false, cond}
+use mathlib.Core.Bool.{Bool, true, false, cond, _&&_}
 use mathlib.Core.Option.{Option, none, some}
 use mathlib.Core.List.{List, [], _∷_}
 use lib.Dec.{ltb, leb, eqb}
 use lib.ListN.{length, take, drop}
-use borrow.Author.Tests.{le-leb}
+use borrow.Author.Tests.{le-leb, leb-true}
 use Rattle.numbers.specs.Little.{little}
 use Rattle.records.specs.Records.{Rec, limit, size, encode}
 use Rattle.records.specs.Answers.{numberOf, number, refusedAt}
@@ -26,6 +26,7 @@ use Rattle.paragraph.specs.declared.finding.Finding.{Finding}
 use Rattle.paragraph.specs.declared.finding.Finding.the-variants as G
 use Rattle.section.specs.Parents.{header, strayFrom}
 use Rattle.section.specs.Section.{refusalOr, findingOf, paragraphsFault, strayOr, sectionFault, settled, ruled, sectionAnswer, checkAnswer}
+use Rattle.acceptance.proofs.ChainLaws.{both-true}
 use Rattle.acceptance.proofs.SectionReader.{room-enough}
 
 -- ---- the numbers of reading are 1 to 6
@@ -80,9 +81,12 @@ early-stop cap zero (x ∷ s) = by (standsAt cap (x ∷ s)) refl (early-stands c
 
 -- ---- the numbers of the section's rules are 8 to 15
 
+abbrev LateFault : Fault → Type 0
+LateFault f = (leb 8 (numberOf f) && leb (numberOf f) 15) ≡ true
+
 abbrev Late : Finding → Type 0
 Late G.Lawful = Unit {0}
-Late (G.Breach f w) = 8 ≤ numberOf f
+Late (G.Breach f w) = LateFault f
 
 late-guard : (b : Bool) (x rest : Finding) → Late x → Late rest → Late (guard b x rest)
 unfolding guard
@@ -98,21 +102,24 @@ late-field : (nth : ℕ) (cs : List ℕ) (bs : List (List ℕ)) → Late (fieldF
 unfolding fieldFault
 late-field nth [] bs = tt
 late-field nth (c ∷ cs) [] = tt
-late-field nth (c ∷ cs) (b ∷ bs) = late-guard _ _ _ (omega arith) (late-field (nth + 1) cs bs)
+late-field nth (c ∷ cs) (b ∷ bs) = late-guard _ _ _ refl (late-field (nth + 1) cs bs)
 
 late-paragraph : (v : View) → Late (paragraphFault v)
 unfolding paragraphFault headFault partsFault lengthFault bodyFault entryFault controlFault
 late-paragraph v =
-    late-guard _ _ _ (omega arith)
-    (late-guard _ _ _ (omega arith)
+    late-guard _ _ _ refl
+    (late-guard _ _ _ refl
     (late-else _ _
-    (late-guard _ _ _ (omega arith) (late-guard _ _ _ (omega arith) (late-guard _ _ _ (omega arith) (late-guard _ _ _ (omega arith) tt))))
-    (late-guard _ _ _ (omega arith)
-    (late-else _ _ (late-guard _ _ _ (omega arith) (late-guard _ _ _ (omega arith) tt)) (late-guard _ _ _ (omega arith) (late-field 0 _ _))))))
+    (late-guard _ _ _ refl (late-guard _ _ _ refl (late-guard _ _ _ refl (late-guard _ _ _ refl tt))))
+    (late-guard _ _ _ refl
+    (late-else _ _ (late-guard _ _ _ refl (late-guard _ _ _ refl tt)) (late-guard _ _ _ refl (late-field 0 _ _))))))
 
 abbrev LateRefusal : Option Refusal → Type 0
 LateRefusal none = Unit {0}
-LateRefusal (some r) = 8 ≤ numberOf (r .fault)
+LateRefusal (some r) = LateFault (r .fault)
+
+late-bounds : (f : Fault) → LateFault f → (8 ≤ numberOf f) × (numberOf f ≤ 15)
+late-bounds f h = let k = both-true _ _ h in (leb-true 8 (numberOf f) (k .0), leb-true (numberOf f) 15 (k .1))
 
 late-or : (at : ℕ) (rs : List Rec) (x : Finding) (rest : Option Refusal) → Late x → LateRefusal rest → LateRefusal (refusalOr at rs x rest)
 late-or at rs G.Lawful rest h k = k
@@ -130,7 +137,7 @@ late-paragraphs at (r ∷ rs) = late-or at (r ∷ rs) (findingOf (r .tag) (r ∷
 
 late-stray : (o : Option ℕ) (rest : Option Refusal) → LateRefusal rest → LateRefusal (strayOr o rest)
 late-stray none rest k = k
-late-stray (some p) rest k = omega arith
+late-stray (some p) rest k = refl
 
 late-section : (rs : List Rec) → LateRefusal (sectionFault rs)
 unfolding sectionFault
@@ -138,20 +145,20 @@ late-section rs = late-stray (strayFrom 0 [] rs) (paragraphsFault 0 rs) (late-pa
 
 -- ---- check
 
-abbrev NoSeven : Answer → Type 0
-NoSeven a = number a ≡ 7 → ⊥
+abbrev Ours : Answer → Type 0
+Ours a = (number a ≡ 7 → ⊥) × (number a ≤ 15)
 
-settled-seven : (n : ℕ) (o : Option Refusal) → LateRefusal o → NoSeven (settled n o)
-settled-seven n none h e = omega arith
-settled-seven n (some r) h e = omega arith
+settled-ours : (n : ℕ) (o : Option Refusal) → LateRefusal o → Ours (settled n o)
+settled-ours n none h = ((λ e. omega arith), omega arith)
+settled-ours n (some r) h = let k = late-bounds (r .fault) h in ((λ e. omega (arith, k .0)), k .1)
 
 abbrev EarlyAnswer : Answer → Type 0
 EarlyAnswer (A.Accepted n) = Unit {0}
 EarlyAnswer (A.Refused r) = numberOf (r .fault) ≤ 6
 
-ruled-seven : (rs : List Rec) (a : Answer) → EarlyAnswer a → NoSeven (ruled rs a)
-ruled-seven rs (A.Accepted n) h = settled-seven n (sectionFault rs) (late-section rs)
-ruled-seven rs (A.Refused r) h = λ e. omega arith
+ruled-ours : (rs : List Rec) (a : Answer) → EarlyAnswer a → Ours (ruled rs a)
+ruled-ours rs (A.Accepted n) h = settled-ours n (sectionFault rs) (late-section rs)
+ruled-ours rs (A.Refused r) h = ((λ e. omega arith), omega (arith, h))
 
 early-room : (s : List ℕ) → EarlyAnswer (roomFor (length s) (readAll s .recs))
 unfolding roomFor
@@ -171,6 +178,12 @@ pub read-early : (s : List ℕ) → EarlyAnswer (readAnswer s (length s))
 unfolding readAnswer answerOf readAll
 read-early s = early-limit (ltb limit (length s)) (answerOf (length s) (readAll s)) (early-answer s (readAll s .stop) (early-stop 0 0 s))
 
-pub never-seven : (s : List ℕ) → number (checkAnswer s) ≡ 7 → ⊥
+ours : (s : List ℕ) → Ours (checkAnswer s)
 unfolding checkAnswer sectionAnswer
-never-seven s = ruled-seven (readAll s .recs) (readAnswer s (length s)) (read-early s)
+ours s = ruled-ours (readAll s .recs) (readAnswer s (length s)) (read-early s)
+
+pub never-seven : (s : List ℕ) → number (checkAnswer s) ≡ 7 → ⊥
+never-seven s = ours s .0
+
+pub below-sixteen : (s : List ℕ) → number (checkAnswer s) ≤ 15
+below-sixteen s = ours s .1

@@ -17,14 +17,13 @@ use Rattle.records.specs.Records.{Rec, leadOf, size}
 use Rattle.records.specs.declared.header.Header.{Header}
 use Rattle.records.specs.declared.fault.Offset.{Offset}
 use Rattle.text.specs.Units.{units}
-use Rattle.text.specs.Walk.{among, classOf, control, what, width, Token, walk, tokens, tokensAt, isExtended, extendedIn, extendedCount, fault, faultAt, textFault}
+use Rattle.text.specs.Walk.{control, what, width, Token, walk, tokens, tokensAt, isExtended, extendedIn, extendedCount, fault, faultAt, textFault}
 use Rattle.text.specs.declared.Class.{Class}
 use Rattle.text.specs.declared.Class.the-variants.{Character, Inline, Extended}
 use Rattle.text.specs.declared.Control.{Control}
 use Rattle.text.specs.declared.Standing.{Standing}
 use Rattle.text.specs.declared.Standing.the-variants as St
-use Rattle.text.proofs.Cases.{lt-or, eq-or}
-use Rattle.text.proofs.TableLaws.{what-control, what-ordinary}
+use Rattle.text.proofs.Cases.{eq-or}
 use Rattle.text.proofs.WalkLaws.{Onward}
 use Rattle.text.proofs.UnitLaws.{length-units}
 use Rattle.records.proofs.ReadingLaws.{size-least}
@@ -39,7 +38,7 @@ use Rattle.paragraph.specs.declared.children.Found.the-variants as P
 use Rattle.paragraph.proofs.StreamLaws.{Read}
 use Rattle.filling.specs.Fields.{Field, next, fieldAt, fieldsIn, fields, idIn, idOf, withId}
 use Rattle.filling.specs.Search.{firstByte, Hit, hitOf, hits}
-use Rattle.filling.proofs.FieldLaws.{fields-ordinary, fields-field, fields-other}
+use Rattle.filling.proofs.FieldLaws.{fields-ordinary, fields-field, fields-other, field-extended, field-ordinal}
 use Rattle.filling.proofs.SearchLaws.{hits-here, hits-past}
 use Rattle.fields.specs.Accepted.{Keep}
 use Rattle.fields.proofs.FitLaws.{TextSound, Fit, fit}
@@ -235,22 +234,6 @@ unit-of us p x ts e = go (drop p us) e
     go (u ∷ l) q =
         let same : _≡_ {A = Token} (record { at = p; what = what u }) (record { at = p; what = x }) = cc in
         (u, ap (λ (t : Token). t .what) same)
-
--- code 3 is extended
-field-extended : (u : ℕ) (c : Control) → what u ≡ St.Control c → c .code ≡ 3 → c .class ≡ Extended
-unfolding classOf among
-field-extended u c e h = elim (lt-or u 32) [
-  | inl l ↦
-      (let same : control u ≡ c = let q : St.Control (control u) ≡ St.Control c = sym (what-control u l) ∙ e in cc in
-      let three : u ≡ 3 = ap (λ (x : Control). x .code) same ∙ h in
-      sym (ap (λ (x : Control). x .class) same) ∙ ap classOf three)
-  | inr l ↦ absurd (let q : St.Ordinary u ≡ St.Control c = sym (what-ordinary u l) ∙ e in let z : _≡_ {A = ℕ} 0 1 = cc in omega arith)
-]
-
-field-ordinal : (n p : ℕ) (o : Option (ℕ × ℕ)) → fieldAt n p o .ordinal ≡ n
-unfolding fieldAt
-field-ordinal n p none = refl
-field-ordinal n p (some x) = refl
 
 field-a : (n p : ℕ) (o : Option (ℕ × ℕ)) → fieldAt n p o .a ≡ p + 8
 unfolding fieldAt

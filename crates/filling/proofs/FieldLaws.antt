@@ -11,7 +11,8 @@ use lib.Dec.{ltb, leb, eqb}
 use lib.ListN.{length, length-append}
 use lib.Seq.{append-snoc}
 use borrow.Author.Tests.{lt-ltb, le-ltb, le-leb, lt-leb, eq-eqb, ne-eqb, eqb-true}
-use Rattle.text.specs.Walk.{among, classOf, what, width, Token, walk, tokens, isExtended, AllOrdinary}
+use Rattle.text.specs.Walk.{among, classOf, control, what, width, Token, walk, tokens, isExtended, AllOrdinary}
+use Rattle.text.specs.declared.Class.the-variants.{Extended}
 use Rattle.text.specs.declared.Control.{Control}
 use Rattle.text.specs.declared.Standing.{Standing}
 use Rattle.text.specs.declared.Standing.the-variants as St
@@ -62,6 +63,22 @@ module _ (t : Token) (ts : List Token) where
       → fieldsIn n (t ∷ ts) ≡ fieldsIn (isExtended (St.Control c) + n) ts
   unfolding fieldsIn
   fields-other n {c} e h = rw (e, fieldsIn, ne-eqb (c .code) 3 h)
+
+-- a field's control owns a control header
+pub field-extended : (u : ℕ) (c : Control) → what u ≡ St.Control c → c .code ≡ 3 → c .class ≡ Extended
+unfolding classOf among
+field-extended u c e h = elim (lt-or u 32) [
+  | inl l ↦
+      (let same : control u ≡ c = let q : St.Control (control u) ≡ St.Control c = sym (what-control u l) ∙ e in cc in
+      let three : u ≡ 3 = ap (λ (x : Control). x .code) same ∙ h in
+      sym (ap (λ (x : Control). x .class) same) ∙ ap classOf three)
+  | inr l ↦ absurd (let q : St.Ordinary u ≡ St.Control c = sym (what-ordinary u l) ∙ e in let z : _≡_ {A = ℕ} 0 1 = cc in omega arith)
+]
+
+pub field-ordinal : (n p : ℕ) (o : Option (ℕ × ℕ)) → fieldAt n p o .ordinal ≡ n
+unfolding fieldAt
+field-ordinal n p none = refl
+field-ordinal n p (some x) = refl
 
 -- ---- lists of tokens
 

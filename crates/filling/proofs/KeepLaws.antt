@@ -42,7 +42,7 @@ use Rattle.filling.proofs.SearchLaws.{no-field, drop-altered, alteredAt
 
 -- ---- a chain that finds nothing
 
-guard-lawful : (b : Bool) (f : Fault) (w : Which) (rest : Finding) → guard b (G.Breach f w) rest ≡ G.Lawful → (b ≡ false) × (rest ≡ G.Lawful)
+pub guard-lawful : (b : Bool) (f : Fault) (w : Which) (rest : Finding) → guard b (G.Breach f w) rest ≡ G.Lawful → (b ≡ false) × (rest ≡ G.Lawful)
 unfolding guard
 guard-lawful true f w rest e = absurd (let z : _≡_ {A = ℕ} 0 1 = cc in omega arith)
 guard-lawful false f w rest e = (refl, e)
@@ -52,7 +52,7 @@ unfolding orElse
 else-lawful G.Lawful rest e = (refl, e)
 else-lawful (G.Breach f w) rest e = absurd (let z : _≡_ {A = ℕ} 0 1 = cc in omega arith)
 
-or-false : (a b : Bool) → a || b ≡ false → (a ≡ false) × (b ≡ false)
+pub or-false : (a b : Bool) → a || b ≡ false → (a ≡ false) × (b ≡ false)
 or-false true b e = absurd (let z : _≡_ {A = ℕ} 0 1 = cc in omega arith)
 or-false false b e = (refl, e)
 
@@ -168,7 +168,7 @@ keep-shapes count b s = starts-none 0 0 1 (max 1 count) (entries 8 (length b / 8
 
 -- ---- 15: bit 15 makes no control header shorter
 
-length-altered : (b : List ℕ) → 8 ≤ length b → length (altered b) ≡ length b
+pub length-altered : (b : List ℕ) → 8 ≤ length b → length (altered b) ≡ length b
 unfolding altered
 length-altered b h = over-length 4 8 (bytesOf 4 (withBit15 (little 4 (drop 4 b)))) b (length-bytesOf 4 _) (omega arith) h
 
@@ -249,7 +249,7 @@ module _ (f : Field) (us w : List ℕ) (k : Cut f us) (o : AllOrdinary w) where
 
 -- ---- the header after a fill
 
-length-head : (a b v k : ℕ) (h : List ℕ) → 18 ≤ length h → length (newHead a b v k h) ≡ length h
+pub length-head : (a b v k : ℕ) (h : List ℕ) → 18 ≤ length h → length (newHead a b v k h) ≡ length h
 unfolding newHead
 length-head a b v k h n =
     let h₁ = replaced 16 18 (bytesOf 2 0) h in
@@ -294,7 +294,7 @@ counts-new a b v k h n l m z = rw (count-new a b v k h l m, shapes-new a b v k h
 
 -- ---- the number of shapes after a fill
 
-after-fewer : (a b v : ℕ) (l : List Entry) → length (shapesAfter a b v l) ≤ length l
+pub after-fewer : (a b v : ℕ) (l : List Entry) → length (shapesAfter a b v l) ≤ length l
 unfolding shapesAfter
 after-fewer a b v [] = omega arith
 after-fewer a b v (e ∷ l) = go (inside a b (e .start) && anyInside a b l) (after-fewer a b v l)
@@ -315,7 +315,7 @@ unfolding entries
 length-entries w zero b = refl
 length-entries w (suc n) b = ap suc (length-entries w n (drop w b))
 
-length-shapes : (b : List ℕ) → length (shapesIn b) ≡ length b / 8
+pub length-shapes : (b : List ℕ) → length (shapesIn b) ≡ length b / 8
 unfolding shapesIn
 length-shapes b = length-map (entries 8 (length b / 8) b) entryAt ∙ length-entries 8 (length b / 8) b
 

@@ -14,3 +14,4 @@ pub mod KeepLaws
 pub mod AcceptedLaws
 pub mod ChangeLaws
 pub mod FieldTextLaws
+pub mod LengthLaws

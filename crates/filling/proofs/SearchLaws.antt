@@ -54,11 +54,11 @@ controls-new : (r : Rec) (b : List ℕ) (x : List Rec) → r .tag ≡ 71 → con
 unfolding controls withBody
 controls-new r b x h = rw (eq-eqb (r .tag) 71 h)
 
-count-next : (t j : ℕ) → t ≡ 71 → countControl t j ≡ suc j
+pub count-next : (t j : ℕ) → t ≡ 71 → countControl t j ≡ suc j
 unfolding countControl
 count-next t j h = rw (eq-eqb t 71 h)
 
-count-same : (t j : ℕ) → (t ≡ 71 → ⊥) → countControl t j ≡ j
+pub count-same : (t j : ℕ) → (t ≡ 71 → ⊥) → countControl t j ≡ j
 unfolding countControl
 count-same t j h = rw (ne-eqb t 71 h)
 

@@ -3,3 +3,4 @@ pub mod PlaceLaws
 pub mod CheckLaws
 pub mod Orders
 pub mod Pairs
+pub mod Room

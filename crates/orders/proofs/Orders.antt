@@ -35,7 +35,7 @@ module _ (id : ℕ) (w : List ℕ) (rs : List Rec) (room : ℕ) where
   unfolding fillAnswer sheet
   answer-one h e = rw (e, fillAnswer)
 
-  answer-refused : (f : Fault) (p : ℕ) → fillable id w rs ≡ refused f p → fillAnswer id w rs room ≡ refusedAt f p
+  pub answer-refused : (f : Fault) (p : ℕ) → fillable id w rs ≡ refused f p → fillAnswer id w rs room ≡ refusedAt f p
   unfolding fillAnswer
   answer-refused f p e = rw (e, fillAnswer)
 
@@ -54,7 +54,7 @@ fits-or n room = elim (lt-or limit n) [
   ]
 ]
 
-fits-accepted : (n m room : ℕ) → fits n room ≡ A.Accepted m → (m ≡ n) × (n ≤ limit)
+pub fits-accepted : (n m room : ℕ) → fits n room ≡ A.Accepted m → (m ≡ n) × (n ≤ limit)
 fits-accepted n m room e = elim (lt-or limit n) [
   | inl h ↦ absurd (let q = fits-not n room h in let z : _≡_ {A = ℕ} 0 1 = cc in omega arith)
   | inr h ↦ elim (lt-or room n) [
