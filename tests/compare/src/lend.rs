@@ -15,6 +15,13 @@ pub struct Room<T> {
 }
 
 impl<T> Given<T> {
+    pub fn of(entries: &[T]) -> Given<T> {
+        Given {
+            pointer: entries.as_ptr(),
+            length: entries.len(),
+        }
+    }
+
     /// # Safety
     /// The memory is lent for as long as the slice is used.
     pub unsafe fn slice<'a>(self) -> &'a [T] {
@@ -23,6 +30,13 @@ impl<T> Given<T> {
 }
 
 impl<T> Room<T> {
+    pub fn of(entries: &mut [T]) -> Room<T> {
+        Room {
+            pointer: entries.as_mut_ptr(),
+            length: entries.len(),
+        }
+    }
+
     /// # Safety
     /// The memory is lent for as long as the slice is used, and through nothing else.
     pub unsafe fn slice<'a>(self) -> &'a mut [T] {
@@ -89,17 +103,11 @@ impl<T: Pattern> Lent<T> {
     }
 
     pub fn as_given(&self) -> Given<T> {
-        Given {
-            pointer: self.memory[self.from..].as_ptr(),
-            length: self.length,
-        }
+        Given::of(self.own())
     }
 
     pub fn as_room(&mut self) -> Room<T> {
-        Room {
-            pointer: self.memory[self.from..].as_mut_ptr(),
-            length: self.length,
-        }
+        Room::of(self.own_mut())
     }
 
     /// The first entry that differs from what is expected, counted from where the lent part starts.
