@@ -10,15 +10,11 @@
 #define PROGRAM "guard"
 #define SAMPLES
 #include "lend.h"
+#include "paragraph.h"
 
 #include "hwp.h"
 
 #define BYTE 0xA5
-
-static uint64_t answer(unsigned number, uint64_t place, uint64_t further)
-{
-    return number + 256 * place + (further << 36);
-}
 
 static void check_is(const char *name, const struct stream *s, uint64_t asked)
 {
@@ -39,11 +35,6 @@ static void field_is(const char *name, const struct stream *s, uint32_t id, uint
         give_back(section);
     }
 }
-
-struct value {
-    const uint8_t *bytes;
-    size_t length;
-};
 
 /* One fill: the answer, and every byte of the buffer. Without a sheet it is refused and changes none. */
 static void fill_is(const char *name, const struct stream *s, uint32_t id, struct value v, size_t room, uint64_t asked,
@@ -69,103 +60,11 @@ static void fill_is(const char *name, const struct stream *s, uint32_t id, struc
     }
 }
 
-/* ---- paragraphs with one field, made by hand ---- */
-
-struct paragraph {
-    unsigned before, value, behind; /* ordinary units before the field, in it and behind its end */
-    uint16_t unit;                  /* what the value is made of */
-    int open;                       /* a tab stands where the field's end belongs */
-    uint32_t starts[4];
-    uint32_t shapes[4];
-    int nstarts;
-    unsigned lines, marks;
-    uint32_t flag; /* bit 31 of the count */
-    uint32_t id;
-    int altered;
-};
-
-static void put_half(struct stream *s, unsigned n)
-{
-    s->bytes[s->length++] = (uint8_t)n;
-    s->bytes[s->length++] = (uint8_t)(n >> 8);
-}
-
-static void put_control(struct stream *s, unsigned code)
-{
-    const unsigned six[6] = {1, 13, 0, 4, 31, 0xFFFF};
-    put_half(s, code);
-    for (int i = 0; i < 6; i++)
-        put_half(s, six[i]);
-    put_half(s, code);
-}
-
-static uint32_t count_of(const struct paragraph *p) { return p->before + 8 + p->value + 8 + p->behind + 1; }
-
-static void put_paragraph(struct stream *s, const struct paragraph *p)
-{
-    uint32_t count = count_of(p);
-    put_header(s, 66, 0, 23);
-    put_word(s, count | p->flag);
-    put_word(s, 0x18);
-    put_word(s, 0x04030201);
-    put_half(s, (unsigned)p->nstarts);
-    put_half(s, p->marks);
-    put_half(s, p->lines);
-    put_word(s, 0x80000001);
-    s->bytes[s->length++] = 0x77; /* a tail behind the 22 bytes */
-    put_header(s, 67, 1, 2 * count);
-    for (unsigned i = 0; i < p->before; i++)
-        put_half(s, 0xAC00 + i % 100);
-    put_control(s, 3);
-    for (unsigned i = 0; i < p->value; i++)
-        put_half(s, p->unit);
-    put_control(s, p->open ? 9 : 4);
-    for (unsigned i = 0; i < p->behind; i++)
-        put_half(s, 'a' + i % 26);
-    put_half(s, 13);
-    put_header(s, 68, 1, 8 * (uint32_t)p->nstarts);
-    for (int i = 0; i < p->nstarts; i++) {
-        put_word(s, p->starts[i]);
-        put_word(s, p->shapes[i]);
-    }
-    if (p->lines)
-        put_record(s, 69, 1, 36 * p->lines);
-    if (p->marks) {
-        put_header(s, 70, 1, 12 * p->marks);
-        for (unsigned i = 0; i < p->marks; i++) {
-            put_word(s, 0);
-            put_word(s, count);
-            put_word(s, 0x0200FFFF);
-        }
-    }
-    put_header(s, 71, 1, 15 + 4 + 2);
-    put_word(s, 0x25636C6B);
-    put_word(s, p->altered ? 0x8001 : 1);
-    s->bytes[s->length++] = 0;
-    put_half(s, 2);
-    put_word(s, 0x00420041);
-    put_word(s, p->id);
-    put_half(s, 0x5555); /* a tail behind the id */
-    put_record(s, 87, 2, 3);
-}
-
-static size_t control_header_of(const struct stream *s) { return s->length - 4 - 21 - 4 - 3; }
-
 static struct stream one(const struct paragraph *p)
 {
     struct stream s = new_stream(65536);
     put_paragraph(&s, p);
     return s;
-}
-
-static struct value units(unsigned count, uint16_t unit)
-{
-    static uint8_t bytes[4096];
-    for (unsigned i = 0; i < count; i++) {
-        bytes[2 * i] = (uint8_t)unit;
-        bytes[2 * i + 1] = (uint8_t)(unit >> 8);
-    }
-    return (struct value){bytes, 2 * (size_t)count};
 }
 
 /* Fills `from` and compares with `to`, which has the value; then asks check and field text of the sheet. */

@@ -32,6 +32,7 @@ static void catch_traps(void)
     struct sigaction action;
     memset(&action, 0, sizeof action);
     action.sa_handler = trapped;
+    action.sa_flags = SA_ONSTACK; /* for where it is a stack that ran into the page */
     sigaction(SIGSEGV, &action, NULL);
     sigaction(SIGBUS, &action, NULL);
 }
@@ -73,7 +74,7 @@ static struct lent lend(size_t length, int at_end)
     return lent;
 }
 
-static void only_read(struct lent lent)
+static inline void only_read(struct lent lent)
 {
     size_t page = (size_t)sysconf(_SC_PAGESIZE);
     if (lent.size > 2 * page && mprotect(lent.pages + page, lent.size - 2 * page, PROT_READ)) {
@@ -82,9 +83,9 @@ static void only_read(struct lent lent)
     }
 }
 
-static void give_back(struct lent lent) { munmap(lent.pages, lent.size); }
+static inline void give_back(struct lent lent) { munmap(lent.pages, lent.size); }
 
-static struct lent given(const void *from, size_t length, int at_end)
+static inline struct lent given(const void *from, size_t length, int at_end)
 {
     struct lent lent = lend(length, at_end);
     if (length)
