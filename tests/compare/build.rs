@@ -5,8 +5,10 @@ use std::path::Path;
 fn main() {
     let native = Path::new(env!("CARGO_MANIFEST_DIR")).join("../../target/native");
     let mut archives = vec!["libprobe.a"];
-    if std::env::var_os("CARGO_FEATURE_HOST").is_some() {
-        archives.push("libhost.a");
+    for (feature, archive) in [("HOST", "libhost.a"), ("LISTER", "liblister.a")] {
+        if std::env::var_os(format!("CARGO_FEATURE_{feature}")).is_some() {
+            archives.push(archive);
+        }
     }
     for archive in archives {
         let path = native.join(archive);

@@ -3,6 +3,7 @@
 use crate::lend::{Lent, Pattern};
 use crate::subject::{answer_of_rows, rows_of, write_rows, Kind, Subject};
 use oracle::answer::{answer_of, answer_of_part};
+use oracle::lister::{judged, listing};
 use oracle::{check, field_text, fill, pack};
 
 /// One fill: id and value, two bytes for each unit.
@@ -42,6 +43,11 @@ pub enum Case {
         section: Vec<u8>,
         fillings: [Filling; 2],
         sheet: usize,
+    },
+    List {
+        input: Vec<u8>,
+        /// The most bytes that one read or write moves.
+        most: usize,
     },
 }
 
@@ -260,6 +266,40 @@ fn judge_two_fills(
     all
 }
 
+fn same_text(found: &[u8], asked: &str, differences: &mut Vec<String>) {
+    if found == asked.as_bytes() {
+        return;
+    }
+    let found = String::from_utf8_lossy(found);
+    let [mut found, mut asked] = [&found, asked].map(|text| text.split_inclusive('\n'));
+    let mut number = 1;
+    loop {
+        let (found, asked) = (found.next(), asked.next());
+        if found != asked || asked.is_none() {
+            differences.push(format!("line {number} is {found:?}, expected {asked:?}"));
+            return;
+        }
+        number += 1;
+    }
+}
+
+/// The lister: every byte that it prints.
+fn judge_list(input: &[u8], most: usize, subject: &dyn Subject) -> Outcome {
+    let judged = judged(input);
+    let mut differences = Vec::new();
+    same_text(
+        &subject.list(input, most),
+        &listing(&judged),
+        &mut differences,
+    );
+    let asked = answer_of(judged.map(|section| section.rows.len()));
+    Outcome {
+        number: number_of(asked),
+        tag: tag_at(input, asked),
+        differences,
+    }
+}
+
 /// Puts a case to the subject.
 pub fn judge(case: &Case, shift: usize, subject: &dyn Subject) -> Outcome {
     match case {
@@ -295,5 +335,6 @@ pub fn judge(case: &Case, shift: usize, subject: &dyn Subject) -> Outcome {
             fillings,
             sheet,
         } => judge_two_fills(section, fillings, *sheet, shift, subject),
+        Case::List { input, most } => judge_list(input, *most, subject),
     }
 }

@@ -1,5 +1,5 @@
-//! compare --seed N --cases N [--from N] [--service NAME]: the linked library against the oracle.
-//! N cases of each service, or of the one named. Fails on a difference, and where a number was not reached.
+//! compare --seed N --cases N [--from N] [--service NAME,NAME..]: the linked library against the oracle.
+//! N cases of each service, or of those named. Fails on a difference, and where a number was not reached.
 
 mod native;
 
@@ -11,7 +11,7 @@ struct Words {
     seed: u64,
     cases: u64,
     from: u64,
-    service: Option<String>,
+    services: Vec<Service>,
 }
 
 fn words() -> Result<Words, String> {
@@ -19,7 +19,7 @@ fn words() -> Result<Words, String> {
         seed: 1,
         cases: 20_000,
         from: 0,
-        service: None,
+        services: ALL.into_iter().filter(|service| linked(*service)).collect(),
     };
     let mut arguments = std::env::args().skip(1);
     while let Some(name) = arguments.next() {
@@ -29,7 +29,9 @@ fn words() -> Result<Words, String> {
             "--seed" => words.seed = number()?,
             "--cases" => words.cases = number()?,
             "--from" => words.from = number()?,
-            "--service" => words.service = Some(value),
+            "--service" => {
+                words.services = value.split(',').map(named).collect::<Result<_, _>>()?
+            }
             _ => return Err(format!("no argument {name}")),
         }
     }
@@ -46,7 +48,14 @@ fn linked(service: Service) -> bool {
         Service::Check | Service::FieldText | Service::Fill | Service::TwoFills => {
             cfg!(feature = "host")
         }
+        Service::Lister => cfg!(feature = "lister"),
     }
+}
+
+fn named(name: &str) -> Result<Service, String> {
+    let mut services = ALL.into_iter().filter(|service| linked(*service));
+    let service = services.find(|service| service.name() == name);
+    service.ok_or(format!("no service {name} is linked"))
 }
 
 fn main() -> ExitCode {
@@ -57,18 +66,9 @@ fn main() -> ExitCode {
             return ExitCode::from(2);
         }
     };
-    let chosen = |service: &Service| match &words.service {
-        Some(name) => name == service.name(),
-        None => linked(*service),
-    };
-    let services: Vec<Service> = ALL.into_iter().filter(chosen).collect();
-    if services.is_empty() || !services.iter().all(|service| linked(*service)) {
-        eprintln!("compare: no such service is linked");
-        return ExitCode::from(2);
-    }
     println!("compare: seed {}", words.seed);
     let (mut cases, mut differing, mut missed) = (0, 0, 0);
-    for service in services {
+    for service in words.services {
         let to = words.from + words.cases;
         let tally = run(service, words.seed, words.from, to, &native::Native);
         println!("{}: {}", service.name(), tally.counts());

@@ -1,5 +1,10 @@
 //! The proved library as a subject: the functions that its archives export.
 
+// It stands beside this file also where another program has this file by its path.
+#[cfg(feature = "lister")]
+#[path = "lister.rs"]
+mod lister;
+
 use compare::lend::{Given, Room};
 use compare::subject::{Kind, Lists, Subject};
 
@@ -182,6 +187,16 @@ impl Subject for Native {
                 sheet.length,
             )
         }
+    }
+
+    #[cfg(feature = "lister")]
+    fn list(&self, input: &[u8], most: usize) -> Vec<u8> {
+        lister::list(input, most)
+    }
+
+    #[cfg(not(feature = "lister"))]
+    fn list(&self, _: &[u8], _: usize) -> Vec<u8> {
+        unreachable!("a service that is not linked")
     }
 
     #[cfg(not(feature = "pack"))]

@@ -128,5 +128,6 @@ fn describe(case: &Case) -> String {
                 "fills of {id} with {value}, {other} with {second}, sheet {sheet}, in {section}"
             )
         }
+        Case::List { input, most } => format!("list by {most} bytes {}", hex(input)),
     }
 }

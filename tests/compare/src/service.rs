@@ -14,9 +14,10 @@ pub enum Service {
     FieldText,
     Fill,
     TwoFills,
+    Lister,
 }
 
-pub const ALL: [Service; 8] = [
+pub const ALL: [Service; 9] = [
     Service::Read,
     Service::Pack,
     Service::DocInfo,
@@ -25,9 +26,10 @@ pub const ALL: [Service; 8] = [
     Service::FieldText,
     Service::Fill,
     Service::TwoFills,
+    Service::Lister,
 ];
 
-/// One case in this many has megabytes.
+/// One case in this many has megabytes, or as much as the lister reads.
 pub const LONG_EVERY: u64 = 1000;
 
 impl Service {
@@ -41,6 +43,7 @@ impl Service {
             Service::FieldText => "field-text",
             Service::Fill => "fill",
             Service::TwoFills => "two-fills",
+            Service::Lister => "lister",
         }
     }
 
@@ -51,7 +54,9 @@ impl Service {
             Service::Pack => &[0, 1, 4, 5, 6, 26, 27],
             Service::DocInfo => &[0, 1, 2, 3, 4, 5, 6, 7, 16, 17, 18],
             Service::Section => &[0, 1, 2, 3, 4, 5, 6, 7, 8, 9, 10, 11, 12, 13, 14, 15],
-            Service::Check => &[0, 1, 2, 3, 4, 5, 6, 8, 9, 10, 11, 12, 13, 14, 15],
+            Service::Check | Service::Lister => {
+                &[0, 1, 2, 3, 4, 5, 6, 8, 9, 10, 11, 12, 13, 14, 15]
+            }
             Service::FieldText => &[
                 0, 1, 2, 3, 4, 5, 6, 8, 9, 10, 11, 12, 13, 14, 15, 21, 22, 23,
             ],
@@ -78,7 +83,7 @@ impl Service {
         ];
         match self {
             Service::DocInfo => &[(16, 16), (16, 17), (17, 16), (17, 17)],
-            Service::Section | Service::Check => &RULES,
+            Service::Section | Service::Check | Service::Lister => &RULES,
             _ => &[],
         }
     }
@@ -105,6 +110,7 @@ impl Service {
             Service::FieldText => fills::field_text_case(random),
             Service::Fill => fills::fill_case(random),
             Service::TwoFills => fills::two_fills_case(random),
+            Service::Lister => sections::list_case(random),
         }
     }
 
@@ -118,6 +124,7 @@ impl Service {
             Service::FieldText => fills::long_field_text_case(random, which),
             Service::Fill => fills::long_fill_case(random, which),
             Service::TwoFills => fills::long_two_fills_case(random),
+            Service::Lister => sections::long_list_case(random, which),
         }
     }
 }

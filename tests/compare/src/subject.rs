@@ -2,7 +2,8 @@
 
 use crate::lend::{Given, Room};
 use oracle::answer::{answer, answer_of, answer_of_part};
-use oracle::{check, field_text, fill, pack, read, read_docinfo, read_section, Refusal, Row};
+use oracle::{check, field_text, fill, list, pack, read, read_docinfo, read_section};
+use oracle::{Refusal, Row};
 
 /// The three reads.
 #[derive(Clone, Copy, Debug, PartialEq, Eq)]
@@ -22,6 +23,9 @@ pub trait Subject {
     fn check(&self, section: Given<u8>) -> u64;
     fn field_text(&self, section: Given<u8>, id: u32) -> u64;
     fn fill(&self, section: Given<u8>, id: u32, value: Given<u8>, sheet: Room<u8>) -> u64;
+
+    /// The program lister: what it prints of its input, where each read and write moves at most so many bytes.
+    fn list(&self, input: &[u8], most: usize) -> Vec<u8>;
 }
 
 /// The rows of one of the three reads.
@@ -88,5 +92,9 @@ impl Subject for Oracle {
     fn fill(&self, section: Given<u8>, id: u32, value: Given<u8>, sheet: Room<u8>) -> u64 {
         // SAFETY: as above.
         unsafe { answer_of(fill(section.slice(), id, value.slice(), sheet.slice())) }
+    }
+
+    fn list(&self, input: &[u8], _: usize) -> Vec<u8> {
+        list(input).into_bytes()
     }
 }

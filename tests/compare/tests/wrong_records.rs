@@ -337,6 +337,10 @@ impl Subject for Wrong {
     fn fill(&self, section: Given<u8>, id: u32, value: Given<u8>, sheet: Room<u8>) -> u64 {
         Oracle.fill(section, id, value, sheet)
     }
+
+    fn list(&self, input: &[u8], most: usize) -> Vec<u8> {
+        Oracle.list(input, most)
+    }
 }
 
 /// Whether some case tells the subject from the oracle: first short cases, then one long case of each kind.

@@ -1,12 +1,13 @@
-//! Deliberately wrong section reads, checks, DocInfo reads, field texts and fills: the comparison catches each.
+//! Deliberately wrong section reads, checks, DocInfo reads, field texts, fills and listers: the comparison catches each.
 //!
-//! A twist is put on the oracle's own answer, or on the sheet that it wrote.
+//! A twist is put on the oracle's own answer, or on the sheet or the list that it wrote.
 
 use compare::judge::{number_of, place_of};
 use compare::lend::{Given, Room};
 use compare::run::run;
 use compare::service::Service;
 use compare::subject::{Kind, Lists, Oracle, Subject};
+use oracle::lister::INPUT;
 use oracle::records::{half, tile, word};
 use oracle::section::field_id_place;
 use oracle::{answer, field_text, Row, LIMIT};
@@ -15,6 +16,7 @@ use std::cell::Cell;
 type OnRead = fn(&[u8], u64) -> u64;
 type OnFieldText = fn(&[u8], u32, u64) -> u64;
 type OnFill = fn(Fill, u64) -> u64;
+type OnList = fn(&[u8], usize, String) -> String;
 
 /// A fill after the oracle: what it was given, and the sheet.
 struct Fill<'a> {
@@ -31,6 +33,7 @@ struct Twisted {
     field_text: OnFieldText,
     fill: OnFill,
     fills: Cell<u32>,
+    list: OnList,
 }
 
 const STRAIGHT: Twisted = Twisted {
@@ -38,6 +41,7 @@ const STRAIGHT: Twisted = Twisted {
     field_text: |_, _, answer| answer,
     fill: |_, answer| answer,
     fills: Cell::new(0),
+    list: |_, _, text| text,
 };
 
 impl Subject for Twisted {
@@ -76,6 +80,10 @@ impl Subject for Twisted {
             }
         };
         (self.fill)(fill, answer)
+    }
+
+    fn list(&self, input: &[u8], most: usize) -> Vec<u8> {
+        (self.list)(input, most, oracle::list(input)).into_bytes()
     }
 }
 
@@ -547,6 +555,74 @@ const FILL_TWISTS: [(&str, OnFill); 19] = [
     ),
 ];
 
+/// The list with another line for each record.
+fn lines_of(input: &[u8], text: String, line: impl Fn(&Row) -> [u32; 4]) -> String {
+    let Some(ok) = text.lines().last().filter(|last| last.starts_with("ok")) else {
+        return text;
+    };
+    let lines = rows(input).into_iter().map(|row| {
+        let [place, tag, level, length] = line(&row);
+        format!("{place} {tag} {level} {length}\n")
+    });
+    lines.chain([format!("{ok}\n")]).collect()
+}
+
+const LIST_TWISTS: [(&str, OnList); 10] = [
+    ("gives places of bodies", |input, _, text| {
+        lines_of(input, text, |row| {
+            [row.place, row.tag, row.level, row.length]
+        })
+    }),
+    ("gives the level before the tag", |input, _, text| {
+        lines_of(input, text, |row| {
+            [row.header() as u32, row.level, row.tag, row.length]
+        })
+    }),
+    ("gives the size for the length", |input, _, text| {
+        lines_of(input, text, |row| {
+            [
+                row.header() as u32,
+                row.tag,
+                row.level,
+                row.length.min(4095),
+            ]
+        })
+    }),
+    ("lists before it judges", |input, _, text| {
+        let lines = rows(input).into_iter().take(1);
+        let lines = lines.filter(|_| text.starts_with("refused"));
+        let first: String = lines.map(|row| format!("0 {}\n", row.tag)).collect();
+        first + &text
+    }),
+    ("leaves out the number of records", |_, _, text| {
+        text.lines()
+            .filter(|line| !line.starts_with("ok"))
+            .map(|line| format!("{line}\n"))
+            .collect()
+    }),
+    ("does not end the last line", |_, _, text| {
+        text.trim_end().to_string()
+    }),
+    ("refuses the longest input", |input, _, text| {
+        match input.len() {
+            INPUT => "refused 1 at 0\n".to_string(),
+            _ => text,
+        }
+    }),
+    ("cuts a longer input", |input, _, text| {
+        match input.len() > INPUT {
+            true => oracle::list(&input[..INPUT]),
+            false => text,
+        }
+    }),
+    ("stops at a short read", |input, most, _| {
+        oracle::list(&input[..most.min(input.len())])
+    }),
+    ("stops at a short write", |_, most, text| {
+        text[..most.min(text.len())].to_string()
+    }),
+];
+
 /// Whether some case tells the subject from the oracle: short cases, then one long case of each kind.
 fn caught(service: Service, subject: &Twisted) -> bool {
     let short = (0..8).any(|part| {
@@ -568,6 +644,7 @@ fn the_straight_oracle_passes() {
         Service::FieldText,
         Service::Fill,
         Service::TwoFills,
+        Service::Lister,
     ] {
         assert_eq!(
             run(service, 1, 501, 1500, &STRAIGHT).differing,
@@ -619,6 +696,14 @@ fn each_wrong_fill_is_caught() {
     for (name, fill) in FILL_TWISTS {
         let subject = Twisted { fill, ..STRAIGHT };
         assert!(caught(Service::Fill, &subject), "{name}");
+    }
+}
+
+#[test]
+fn each_wrong_lister_is_caught() {
+    for (name, list) in LIST_TWISTS {
+        let subject = Twisted { list, ..STRAIGHT };
+        assert!(caught(Service::Lister, &subject), "{name}");
     }
 }
 

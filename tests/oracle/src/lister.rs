@@ -1,21 +1,22 @@
 //! The lister: what it prints for the bytes of its input.
 
-use crate::answer::Refusal;
-use crate::section::lawful;
+use crate::answer::{demand, Refusal};
+use crate::section::{lawful, Section};
 use std::fmt::Write;
 
 /// The most bytes that the lister reads.
-const INPUT: usize = 65_536;
+pub const INPUT: usize = 65_536;
 
-pub fn list(input: &[u8]) -> String {
-    if input.len() > INPUT {
-        return refused(Refusal {
-            number: 1,
-            place: 0,
-        });
-    }
-    match lawful(input) {
-        Err(refusal) => refused(refusal),
+/// The section that is listed: 1 is given for more bytes than are read, else what check gives.
+pub fn judged(input: &[u8]) -> Result<Section<'_>, Refusal> {
+    demand(input.len() <= INPUT, 1, 0)?;
+    lawful(input)
+}
+
+/// What is printed of a section, or of its refusal.
+pub fn listing(judged: &Result<Section, Refusal>) -> String {
+    match judged {
+        Err(refusal) => format!("refused {} at {}\n", refusal.number, refusal.place),
         Ok(section) => {
             let mut lines = String::new();
             for row in &section.rows {
@@ -28,6 +29,6 @@ pub fn list(input: &[u8]) -> String {
     }
 }
 
-fn refused(refusal: Refusal) -> String {
-    format!("refused {} at {}\n", refusal.number, refusal.place)
+pub fn list(input: &[u8]) -> String {
+    listing(&judged(input))
 }

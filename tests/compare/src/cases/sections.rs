@@ -6,6 +6,7 @@ use crate::cases::records::{damage_bytes, rooms, stream, write_stream, Draft};
 use crate::judge::Case;
 use crate::random::Random;
 use crate::subject::Kind;
+use oracle::lister::INPUT;
 use oracle::LIMIT;
 
 /// Damages the records of a section once or more; half of the sections stay lawful.
@@ -129,12 +130,17 @@ pub fn long_section(random: &mut Random, which: usize) -> Vec<u8> {
         }
         _ => {
             let length = random.from_to(1_000_000, 3_000_000);
-            let mut section = real(random, length).0;
-            let at = random.below(section.len());
-            section[at] ^= 1 << random.below(8);
-            section
+            one_bit_off(random, length)
         }
     }
+}
+
+/// A section of real shape with one bit wrong.
+fn one_bit_off(random: &mut Random, length: usize) -> Vec<u8> {
+    let mut section = real(random, length).0;
+    let at = random.below(section.len());
+    section[at] ^= 1 << random.below(8);
+    section
 }
 
 pub fn long_read_case(random: &mut Random, which: usize) -> Case {
@@ -151,4 +157,26 @@ pub fn long_read_case(random: &mut Random, which: usize) -> Case {
 pub fn long_check_case(random: &mut Random, which: usize) -> Case {
     let section = long_section(random, which);
     Case::Check { section }
+}
+
+/// An input of the lister, which comes whole or in parts.
+fn listed(random: &mut Random, input: Vec<u8>) -> Case {
+    let most = random.pick(&[usize::MAX, usize::MAX, 4096, 7, 1]);
+    Case::List { input, most }
+}
+
+pub fn list_case(random: &mut Random) -> Case {
+    let (input, _) = any_section(random, MIXED);
+    listed(random, input)
+}
+
+/// Inputs at the most that the lister reads, and over it.
+pub fn long_list_case(random: &mut Random, which: usize) -> Case {
+    let input = match which % 4 {
+        0 => real(random, INPUT).0,
+        1 => real(random, INPUT + 1).0,
+        2 => hostile(random, INPUT),
+        _ => one_bit_off(random, INPUT),
+    };
+    listed(random, input)
 }
