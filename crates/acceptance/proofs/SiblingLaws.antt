@@ -47,9 +47,17 @@ nearer deep level (p ∷ e) h k d =
           (nearer deep level e (omega (arith, k .0)) (k .1) d))
     ]
 
-twin-short : {tag : ℕ} {up e : List Rec} → Twin tag up e → length up < length e
+pub twin-short : {tag : ℕ} {up e : List Rec} → Twin tag up e → length up < length e
 twin-short (here {q} {before} t p) = omega (arith, parent-short (q .level) before, ap length p)
 twin-short (further w) = omega (arith, twin-short w)
+
+-- records of one parent stand at one level
+pub same-level : (level : ℕ) (q : Rec) (e : List Rec) → Stepped (q ∷ e) → level ≤ q .level → parentOf (q .level) e ≡ parentOf level e → q .level ≡ level
+same-level level q e k a p =
+    elim (eq-or (q .level) level) [
+      | inl b ↦ b
+      | inr b ↦ absurd (omega (arith, nearer (q .level) level e (k .0) (k .1) (omega arith), ap length p))
+    ]
 
 -- ---- the clauses of doubled
 
@@ -84,11 +92,7 @@ doubled-twin tag level (q ∷ e) d =
 -- at a record of the same level or deeper
 twin-here : (tag level : ℕ) (q : Rec) (e : List Rec) → Stepped (q ∷ e) → level ≤ q .level → q .tag ≡ tag → parentOf (q .level) e ≡ parentOf level e
     → doubled tag level (q ∷ e) ≡ true
-twin-here tag level q e k a t p =
-    elim (eq-or (q .level) level) [
-      | inl b ↦ doubled-on tag level q e a ∙ rw (eq-eqb (q .level) level b, eq-eqb (q .tag) tag t)
-      | inr b ↦ absurd (omega (arith, nearer (q .level) level e (k .0) (k .1) (omega arith), ap length p))
-    ]
+twin-here tag level q e k a t p = doubled-on tag level q e a ∙ rw (eq-eqb (q .level) level (same-level level q e k a p), eq-eqb (q .tag) tag t)
 
 pub twin-doubled : (tag level : ℕ) (e : List Rec) → Stepped e → Twin tag (parentOf level e) e → doubled tag level e ≡ true
 twin-doubled tag level [] k w = absurd (omega (arith, twin-short w))

@@ -8,7 +8,6 @@ use records::Answer;
 use records::Fault;
 use records::refused;
 ghost use mathlib.Core.Path.{_≡_};
-ghost use Prim.Native.Nat.{min};
 ghost use Rattle.records.specs.Reading.{readAll};
 ghost use Rattle.records.specs.Table.{entered, Table, shortest};
 ghost use Rattle.docinfo.specs.Only.{placedAt, Within};
@@ -61,12 +60,6 @@ pub fn check_docinfo(s: &[u8], room: usize) -> Answer
     }
 }
 
-fn lesser(a: usize, b: usize) -> usize
-    ensures { λ r. ⌜ r ≡ min a b ⌝ }
-{
-    if a < b { a } else { b }
-}
-
 // Reads DocInfo's records into four lists: tag, level, body place and body length. A refusal changes no entry; entries past the
 // records stay.
 pub fn read_docinfo(
@@ -79,11 +72,7 @@ pub fn read_docinfo(
     ensures answer { λ r. ⌜ r ≡ docinfoAnswer (now (s .entry)) (shortest (now (tags .entry)) (now (levels .entry)) (now (places .entry)) (now (lengths .entry))) ⌝ }
     ensures table { λ r. ⌜ Table (entered r (readAll (now (s .entry)) .recs)) (now (tags .entry)) (now (tags .exit)) (now (levels .entry)) (now (levels .exit)) (now (places .entry)) (now (places .exit)) (now (lengths .entry)) (now (lengths .exit)) ⌝ }
 {
-    let room = lesser(
-        lesser(tags.len(), levels.len()),
-        lesser(places.len(), lengths.len()),
-    );
-    match check_docinfo(s, room) {
+    match check_docinfo(s, records::room(tags, levels, places, lengths)) {
         Answer::Accepted(_) => records::read(s, tags, levels, places, lengths),
         Answer::Refused(r) => Answer::Refused(r),
     }

@@ -36,7 +36,6 @@ use Rattle.fields.specs.declared.outcome.Searched.the-variants as So
 use Rattle.fields.proofs.AcceptLaws.{sectioned}
 use Rattle.fields.proofs.LocateLaws.{only-one, Located, here-is}
 use Rattle.writing.proofs.CallLaws.{sheet-of-is}
-use Rattle.filling.proofs.KeepLaws.{lawful-view}
 use Rattle.filling.proofs.OrderLaws.{value-right}
 
 -- ---- who may be filled
@@ -174,7 +173,7 @@ hit-sheet s id value a small bs k e =
     let f = fillable-found id value (recordsIn s) k e in
     let o = only-one (hits id 0 0 (recordsIn s)) k (f .1) in
     let l = here-is s bs id k a (o .0) in
-    let head : 22 ≤ length (l .rec .body) = lawful-view (view (l .rec) (l .rs)) (l .lawful) .long in
+    let head : 22 ≤ length (l .rec .body) = l .keeps .header-long in
     let short = value-right value (f .0) .short in
     sheet-of-is s bs (a .whole) (omega arith) id k [] (o .0) value (omega arith)
     (λ r rs q.

@@ -1,8 +1,9 @@
 pub mod IdLaws
 pub mod ClosingLaws
-pub mod OwnedLaws
 pub mod PassLaws
 pub mod FitLaws
+pub mod BareLaws
+pub mod LookLaws
 pub mod SearchLaws
 pub mod LocateLaws
 pub mod AcceptLaws

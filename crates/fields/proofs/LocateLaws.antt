@@ -16,8 +16,7 @@ use Rattle.records.proofs.ReadingLaws.{length-encodeOne}
 use Rattle.text.proofs.Cases.{eq-or}
 use Rattle.paragraph.specs.View.{View, view, kids, child}
 use Rattle.paragraph.specs.Stream.{recordsIn}
-use Rattle.paragraph.specs.Rules.{paragraphFault}
-use Rattle.paragraph.specs.declared.finding.Finding.the-variants as G
+use Rattle.acceptance.specs.Keeps.{Keeps}
 use Rattle.paragraph.proofs.StreamLaws.{Stood, stood-of}
 use Rattle.filling.specs.Fields.{Field, fields, idOf, withId}
 use Rattle.filling.specs.Search.{Hit, hitOf, hits, Outcome, one, refused, outcome, search}
@@ -80,7 +79,7 @@ pub record Located (s : List ℕ) (at i : ℕ) (all : List Rec) (h : Hit) : Type
   pub stands : recordsIn (drop (at + ahead) s) ≡ rec ∷ rs
   pub whole : encode (rec ∷ rs) ≡ drop (at + ahead) s
   pub tag-is : rec .tag ≡ 66
-  pub lawful : paragraphFault (view rec rs) ≡ G.Lawful
+  pub keeps : Keeps (view rec rs)
   pub among : Among (h .field) (fields (view rec rs))
   pub hit-is : h ≡ hitOf (i + back) (at + ahead) rec rs (h .field)
   pub edited : (e : Edit) → encode (editAt back e all) ≡ take ahead (drop at s) ++ encode (editHere e rec rs)
@@ -112,7 +111,7 @@ module _ (s : List ℕ) (bs : Bytes s) (id : ℕ) where
         stands = rw to (l .stands);
         whole = rw to (l .whole);
         tag-is = l .tag-is;
-        lawful = l .lawful;
+        keeps = l .keeps;
         among = l .among;
         hit-is = rw (to, ← n) (l .hit-is);
         edited = λ e.
@@ -153,7 +152,7 @@ module _ (s : List ℕ) (bs : Bytes s) (id : ℕ) where
             stands = rw zero-at q;
             whole = rw zero-at w;
             tag-is = t;
-            lawful = k .0 t;
+            keeps = k .0 t;
             among = with-among id (view r rs) (fields (view r rs)) (h .field) (rw f-is (x .2));
             hit-is = x .1 ∙ ap₂ (λ (p q : ℕ). hitOf p q r rs (x .0)) (sym zero-i) (sym zero-at) ∙ ap (hitOf (i + 0) (at + 0) r rs) (sym f-is);
             edited = λ e. ap encode (at-here e r rs t);
@@ -175,7 +174,7 @@ module _ (hs : List Hit) where
       go : (l : List Hit) → metWith M.Nothing l ≡ M.Nothing → outcome l ≡ refused F.NoField 0
       go [] q = refl
       go (h ∷ []) q = absurd (let z : _≡_ {A = ℕ} 0 1 = cc in omega arith)
-      go (h ∷ k ∷ l) q = absurd (let y : M.Twice (record { 0 = k .control }) ≡ M.Nothing = sym (met-twice (k .control) l) ∙ q in let z : _≡_ {A = ℕ} 0 1 = cc in omega arith)
+      go (h ∷ k ∷ l) q = absurd (let y : M.Twice (record { 0 = k .control }) ≡ M.Nothing = sym (met-twice (record { 0 = k .control }) l) ∙ q in let z : _≡_ {A = ℕ} 0 1 = cc in omega arith)
 
   pub one-met : {x : told-hit.Hit} → metWith M.Nothing hs ≡ M.One x → (h : Hit) × (hs ≡ h ∷ []) × (told h ≡ x)
   unfolding metWith
@@ -184,7 +183,7 @@ module _ (hs : List Hit) where
       go : (l : List Hit) → metWith M.Nothing l ≡ M.One x → (h : Hit) × (l ≡ h ∷ []) × (told h ≡ x)
       go [] q = absurd (let z : _≡_ {A = ℕ} 0 1 = cc in omega arith)
       go (h ∷ []) q = (h, refl, cc)
-      go (h ∷ k ∷ l) q = absurd (let y : M.Twice (record { 0 = k .control }) ≡ M.One x = sym (met-twice (k .control) l) ∙ q in let z : _≡_ {A = ℕ} 0 1 = cc in omega arith)
+      go (h ∷ k ∷ l) q = absurd (let y : M.Twice (record { 0 = k .control }) ≡ M.One x = sym (met-twice (record { 0 = k .control }) l) ∙ q in let z : _≡_ {A = ℕ} 0 1 = cc in omega arith)
 
   pub two-met : {p : Offset} → metWith M.Nothing hs ≡ M.Twice p → outcome hs ≡ refused F.FieldTwice (p .0)
   unfolding outcome metWith
@@ -194,7 +193,7 @@ module _ (hs : List Hit) where
       go [] q = absurd (let z : _≡_ {A = ℕ} 0 1 = cc in omega arith)
       go (h ∷ []) q = absurd (let z : _≡_ {A = ℕ} 0 1 = cc in omega arith)
       go (h ∷ k ∷ l) q =
-          let y : M.Twice (record { 0 = k .control }) ≡ M.Twice p = sym (met-twice (k .control) l) ∙ q in
+          let y : M.Twice (record { 0 = k .control }) ≡ M.Twice p = sym (met-twice (record { 0 = k .control }) l) ∙ q in
           let z : _≡_ {A = Offset} (record { 0 = k .control }) p = cc in
           ap (λ (o : Offset). refused F.FieldTwice (o .0)) z
 
@@ -261,7 +260,7 @@ module _ (s : List ℕ) (bs : Bytes s) (a : Sound s) (id : ℕ) (h : Hit) (e : s
       let n = suc (l .rec .level) in
       let go = at + size (l .rec) in
       let rest : recordsIn (drop go s) ≡ l .rs = stood-of s at bs (l .rec) (l .rs) (l .stands) .1 in
-      let t : TextAt s n go (l .rs) _ _ = subst (λ (x : List Rec). TextAt s n go x (spanOf (foundIn n 67 0 go x) .from) (spanOf (foundIn n 67 0 go x) .to)) rest (text-at s bs n go _ refl) in
+      let t : TextAt s n go (l .rs) _ = subst (λ (x : List Rec). TextAt s n go x (spanOf (foundIn n 67 0 go x))) rest (text-at s bs n go) in
       let us = units (bytesIn (child 67 (kids n (l .rs)))) in
       let ab = a-to-b us (h .field) (l .among) (o .1) in
       let f = spanOf (foundIn n 67 0 go (l .rs)) in
@@ -272,7 +271,7 @@ module _ (s : List ℕ) (bs : Bytes s) (a : Sound s) (id : ℕ) (h : Hit) (e : s
         a-b = ab .0;
         inside =
             omega
-            (arith, ab .1, text, ap length (t .units-are), length-units (take (f .to - f .from) (drop (f .from) s)), length-take (f .to - f .from) (drop (f .from) s), t .inside, t .from-to);
+            (arith, ab .1, text, ap length (t .units-are), length-units (take (f .length) (drop (f .from) s)), length-take (f .length) (drop (f .from) s), t .inside);
       }
 
 -- by what was searched

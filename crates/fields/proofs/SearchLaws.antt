@@ -4,65 +4,68 @@ use native.Mathlib.Omega.{arith}
 use native.Mathlib.Numerals.{add-one}
 use native.Mathlib.Nat.{zero-add, add-zero}
 use mathlib.Core.Path.{_≡_, refl, sym, ap, ap₂, _∙_, subst}
-use mathlib.Core.Logic.{inl, inr}
-use mathlib.Core.Bool.{Bool, true, false, cond, _&&_}
+use mathlib.Core.Bool.{Bool, true, false, cond}
 use mathlib.Core.Option.{Option, none, some}
 use mathlib.Core.List.{List, [], _∷_, _++_, map}
 use lib.Dec.{eqb}
 use lib.ListN.{length, getD, take, drop, length-drop, length-take}
 use lib.Seq.{getD-drop, drop-drop}
 use borrow.Author.Tests.{eq-eqb, ne-eqb, eqb-true, eqb-false}
-use Rattle.numbers.specs.Little.{little, Bytes}
-use Rattle.records.specs.Records.{Rec, leadOf, size}
-use Rattle.records.specs.declared.header.Header.{Header}
+use Rattle.numbers.specs.Little.{Bytes}
+use Rattle.records.specs.Records.{Rec, size}
 use Rattle.records.specs.declared.fault.Offset.{Offset}
 use Rattle.text.specs.Units.{units}
-use Rattle.text.specs.Walk.{control, what, width, Token, walk, tokens, tokensAt, isExtended, extendedIn, extendedCount, fault, faultAt, textFault}
+use Rattle.text.specs.Walk.{what, Token, walk, tokens, tokensAt, isExtended, extendedIn, extendedCount, fault, faultAt, textFault, run}
+use Rattle.text.specs.Answers.{cursor}
+use Rattle.text.specs.declared.Cursor.{Cursor}
 use Rattle.text.specs.declared.Class.{Class}
 use Rattle.text.specs.declared.Class.the-variants.{Character, Inline, Extended}
 use Rattle.text.specs.declared.Control.{Control}
 use Rattle.text.specs.declared.Standing.{Standing}
 use Rattle.text.specs.declared.Standing.the-variants as St
-use Rattle.text.proofs.Cases.{eq-or}
-use Rattle.text.proofs.WalkLaws.{Onward}
+use Rattle.text.proofs.WalkLaws.{Onward, Ended}
 use Rattle.text.proofs.UnitLaws.{length-units}
+use Rattle.text.proofs.PartLaws.{singles}
+use Rattle.text.proofs.RunLaws.{run-fault, run-tokens, run-extended}
 use Rattle.records.proofs.ReadingLaws.{size-least}
-use Rattle.fields.specs.declared.search.Hit as told-hit
 use Rattle.paragraph.specs.View.{View, view, kids, child, controls}
 use Rattle.paragraph.specs.Stream.{recordsIn}
-use Rattle.paragraph.specs.Places.{foundIn, placeFound}
-use Rattle.paragraph.specs.Rules.{bytesIn, countsOf}
+use Rattle.paragraph.specs.Places.{foundIn, placeFound, bodyOf, bodyFound, ownedBy, Inside}
+use Rattle.paragraph.specs.Rules.{bytesIn, countsOf, ownerOf}
 use Rattle.paragraph.specs.declared.children.Part.{Part}
 use Rattle.paragraph.specs.declared.children.Found.{Found}
 use Rattle.paragraph.specs.declared.children.Found.the-variants as P
-use Rattle.paragraph.proofs.StreamLaws.{Read}
+use Rattle.paragraph.specs.declared.fields.Owner.{Owner}
+use Rattle.paragraph.specs.declared.fields.Owner.the-variants as O
+use Rattle.paragraph.specs.declared.fields.Owned.{Owned}
+use Rattle.paragraph.specs.declared.fields.Owned.the-variants as K
+use Rattle.paragraph.proofs.StreamLaws.{Stood, stood-of}
+use Rattle.paragraph.proofs.BodyLaws.{child-found, found-inside}
+use Rattle.paragraph.proofs.OwningLaws.{headers, behind, Owning}
+use Rattle.paragraph.proofs.FieldLaws.{Outcome, outcome}
 use Rattle.filling.specs.Fields.{Field, next, fieldAt, fieldsIn, fields, idIn, idOf, withId}
 use Rattle.filling.specs.Search.{firstByte, Hit, hitOf, hits}
 use Rattle.filling.proofs.FieldLaws.{fields-ordinary, fields-field, fields-other, field-extended, field-ordinal}
 use Rattle.filling.proofs.SearchLaws.{hits-here, hits-past}
 use Rattle.fields.specs.Accepted.{Keep}
 use Rattle.fields.proofs.FitLaws.{TextSound, Fit, fit}
-use Rattle.fields.specs.Searching.{closingOf, unseen, ownedBy, seenAt, seenOf, spanOf, hitFrom, told, metNext, metWith}
+use Rattle.fields.proofs.BareLaws.{bared, no-fields}
+use Rattle.fields.specs.Searching.{closingOf, unseen, seenOf, begun, spanOf, paragraphAt, bareIn, bareOr, lookOf, hitFrom, told, metNext, metWith, metBy}
+use Rattle.fields.specs.declared.search.Hit as told-hit
 use Rattle.fields.specs.declared.search.Met.{Met}
 use Rattle.fields.specs.declared.search.Met.the-variants as M
 use Rattle.fields.specs.declared.search.Passed.{Passed}
 use Rattle.fields.specs.declared.search.Seen.{Seen}
 use Rattle.fields.specs.declared.search.Span.{Span}
+use Rattle.fields.specs.declared.search.Look.{Look}
+use Rattle.fields.specs.declared.search.Look.the-variants as L
+use Rattle.fields.specs.declared.search.Until.{Until}
+use Rattle.fields.specs.declared.search.Until.the-variants as U
 use Rattle.fields.specs.declared.search.Paragraph.{Paragraph}
-use Rattle.fields.proofs.OwnedLaws.{bodyAt, Owned, owned, unowned}
-
-abbrev part-end : Part → ℕ
-part-end t = t .at + t .lead + t .length
 
 -- ---- what was met
 
--- not yet twice
-abbrev pub Open : Met → Type 0
-Open M.Nothing = Unit {0}
-Open (M.One h) = Unit {0}
-Open (M.Twice p) = ⊥
-
-pub met-twice : (p : ℕ) (hs : List Hit) → metWith (M.Twice (record { 0 = p })) hs ≡ M.Twice (record { 0 = p })
+pub met-twice : (p : Offset) (hs : List Hit) → metWith (M.Twice p) hs ≡ M.Twice p
 unfolding metWith
 met-twice p [] = refl
 met-twice p (h ∷ hs) = met-twice p hs
@@ -74,98 +77,32 @@ pub record Searching (s : List ℕ) (id : ℕ) (met : Met) (number at : ℕ) : T
   pub rest : metWith M.Nothing (hits id 0 0 (recordsIn s)) ≡ metWith met (hits id number at (recordsIn (drop at s)))
   pub fits : Keep (recordsIn (drop at s))
   pub few : number ≤ at
-  pub once : Open met
 
 pub searching-start : (s : List ℕ) (id : ℕ) → Keep (recordsIn s) → Searching s id M.Nothing 0 0
-searching-start s id f = record { rest = refl; fits = f; few = omega arith; once = tt }
+searching-start s id f = record { rest = refl; fits = f; few = omega arith }
 
 pub searching-end : {s : List ℕ} {id number at : ℕ} {met : Met} → Searching s id met number at → recordsIn (drop at s) ≡ []
     → met ≡ metWith M.Nothing (hits id 0 0 (recordsIn s))
 unfolding metWith hits
 searching-end k e = sym (k .rest ∙ rw e)
 
-module _ {s : List ℕ} {id number at : ℕ} {met : Met} {h : Header} (k : Searching s id met number at) (d : Read s at h) where
-  next-at : at + h .lead + h .length ≡ at + size (d .rec)
-  next-at = omega (arith, d .size-is)
-
-  fits-all : Keep (d .rec ∷ recordsIn (drop (at + size (d .rec)) s))
-  fits-all = subst Keep (d .stands .records) (k .fits)
-
-  pub searching-past : (h .tag ≡ 66 → ⊥) → Searching s id met number (at + h .lead + h .length)
-  searching-past t =
-      record {
-        rest =
-            k .rest
-            ∙ ap (λ (l : List Rec). metWith met (hits id number at l)) (d .stands .records)
-            ∙ ap (metWith met) (hits-past id number at (d .rec) (recordsIn (drop (at + size (d .rec)) s)) (λ e. t (d .tag-is ∙ e)))
-            ∙ ap (λ (j : ℕ). metWith met (hits id number j (recordsIn (drop j s)))) (sym next-at);
-        fits = rw next-at (fits-all .1);
-        few = omega (arith, k .few);
-        once = k .once;
-      }
-
--- ---- from a position of a paragraph's text on
-
--- the paragraph at a place whose children are at a level, and its text
-pub record Here (s : List ℕ) (number at level behind from marks : ℕ) (text : List ℕ) : Type 0 where
-  pub rec : Rec
-  pub rs : List Rec
-  pub rs-is : recordsIn (drop behind s) ≡ rs
-  pub behind-is : at + size rec ≡ behind
-  pub level-is : level ≡ suc (rec .level)
-  pub marks-is : marks ≡ countsOf (rec .body) .marks
-  pub units-are : units text ≡ units (bytesIn (child 67 (kids level rs)))
-  pub place-is : from ≡ firstByte (foundIn level 67 0 behind rs)
-  pub fits : Keep rs
-  pub few : number ≤ at
-
-module _ {s text : List ℕ} {number at level behind from marks : ℕ} (g : Here s number at level behind from marks text) where
-  -- the hits from a position on, with n extended controls before it
-  abbrev pub leftIn : ℕ → ℕ → ℕ → List Hit
-  leftIn id n p =
-      map (hitOf number at (g .rec) (g .rs)) (withId id (view (g .rec) (g .rs)) (fieldsIn n (tokensAt (units text) p)))
-      ++ hits id (suc number) behind (g .rs)
-
-  abbrev pub owns : List (List ℕ)
-  owns = controls (kids level (g .rs))
-
-pub record Walking (s : List ℕ) (id number at level behind from marks : ℕ) (text : List ℕ) (met : Met) (p n c : ℕ) : Type 0 where
-  pub here : Here s number at level behind from marks text
-  pub once : Open met
-  pub sound : faultAt (units text) p ≡ none
-  pub enough : n + extendedIn (tokensAt (units text) p) ≡ length (owns here)
-  pub owned : drop n (owns here) ≡ controls (kids level (recordsIn (drop c s)))
-  pub spots : (k : ℕ) → foundIn level 71 (n + k) behind (here .rs) ≡ foundIn level 71 k c (recordsIn (drop c s))
-  pub few : n ≤ p
-  pub rest : metWith M.Nothing (hits id 0 0 (recordsIn s)) ≡ metWith met (leftIn here id n p)
-
 -- ---- the text of a paragraph
 
--- the bytes from `from` to `to` are the text among the children at a level of records that begin at `behind`
-pub record TextAt (s : List ℕ) (level behind : ℕ) (rs : List Rec) (from to : ℕ) : Type 0 where
-  pub from-to : from ≤ to
-  pub inside : to ≤ length s
-  pub units-are : units (take (to - from) (drop from s)) ≡ units (bytesIn (child 67 (kids level rs)))
-  pub place-is : from ≡ firstByte (foundIn level 67 0 behind rs)
+-- the bytes of a span are the text among the children at a level of records that begin at `behind`
+pub record TextAt (s : List ℕ) (level behind : ℕ) (rs : List Rec) (g : Span) : Type 0 where
+  pub inside : g .from + g .length ≤ length s
+  pub units-are : units (take (g .length) (drop (g .from) s)) ≡ units (bytesIn (child 67 (kids level rs)))
+  pub place-is : g .from ≡ firstByte (foundIn level 67 0 behind rs)
 
 module _ (s : List ℕ) (bs : Bytes s) (level at : ℕ) where
-  text-by : (f : Found) (rs : List Rec) → recordsIn (drop at s) ≡ rs → foundIn level 67 0 at rs ≡ f → TextAt s level at rs (spanOf f .from) (spanOf f .to)
+  text-by : (f : Found) → Inside s f → bodyFound s f ≡ child 67 (kids level (recordsIn (drop at s))) → foundIn level 67 0 at (recordsIn (drop at s)) ≡ f
+      → TextAt s level at (recordsIn (drop at s)) (spanOf f)
   unfolding units
-  text-by P.Nothing rs q e =
-      let o = unowned level 67 at rs e in
-      record { from-to = omega arith; inside = omega arith; units-are = rw (o .0); place-is = sym (ap firstByte e) }
-  text-by (P.At p) rs q e =
-      let o = owned s bs level 67 at rs p q e in
-      let d : p .at + p .lead + p .length - (p .at + p .lead) ≡ p .length = omega arith in
-      record {
-        from-to = omega arith;
-        inside = o .inside;
-        units-are = rw (d, o .child-is);
-        place-is = sym (ap firstByte e);
-      }
+  text-by P.Nothing i b e = record { inside = omega arith; units-are = rw (← b); place-is = sym (ap firstByte e) }
+  text-by (P.At p) i b e = record { inside = i; units-are = rw (← b); place-is = sym (ap firstByte e) }
 
-  pub text-at : (g : Span) → g ≡ spanOf (foundIn level 67 0 at (recordsIn (drop at s))) → TextAt s level at (recordsIn (drop at s)) (g .from) (g .to)
-  text-at g e = rw e (text-by (foundIn level 67 0 at (recordsIn (drop at s))) (recordsIn (drop at s)) refl refl)
+  pub text-at : TextAt s level at (recordsIn (drop at s)) (spanOf (foundIn level 67 0 at (recordsIn (drop at s))))
+  text-at = text-by (foundIn level 67 0 at (recordsIn (drop at s))) (found-inside s bs level 67 at) (child-found s bs level 67 at) refl
 
 sound-start : (us : List ℕ) → textFault us ≡ none → faultAt us 0 ≡ none
 unfolding textFault fault
@@ -177,50 +114,194 @@ unfolding fault units
 sound-text none t = refl
 sound-text (some b) t = sound-start (units b) t
 
--- the paragraph header h, before its first position
-module _ {s : List ℕ} {id number at : ℕ} {met : Met} {h : Header} (k : Searching s id met number at) (d : Read s at h) where
-  pub walking-start : {from to marks : ℕ} → h .tag ≡ 66
-      → TextAt s (h .level + 1) (at + h .lead + h .length) (recordsIn (drop (at + h .lead + h .length) s)) from to
-      → marks ≡ little 2 (drop 14 (take (at + h .lead + h .length - (at + h .lead)) (drop (at + h .lead) s)))
-      → Walking s id number at (h .level + 1) (at + h .lead + h .length) from marks (take (to - from) (drop from s)) met 0 0 (at + h .lead + h .length)
-  unfolding view fields tokens extendedCount countsOf
-  walking-start {from} {to} {marks} t x m =
-      let r = d .rec in
-      let go = at + h .lead + h .length in
-      let rs = recordsIn (drop go s) in
-      let level = h .level + 1 in
-      let go-is : go ≡ at + size r = next-at k d in
-      let up : level ≡ suc (r .level) = add-one (h .level) ∙ ap suc (d .level-is) in
-      let fine : Fit (view r rs) = fit (view r rs) (rw go-is (fits-all k d .0 (sym (d .tag-is) ∙ t))) in
-      let len : go - (at + h .lead) ≡ length (r .body) = omega (arith, d .length-is) in
-      let body-is : take (go - (at + h .lead)) (drop (at + h .lead) s) ≡ r .body
-      = ap₂ (λ (a b : ℕ). take a (drop (at + b) s)) len (d .lead-is) ∙ d .stands .body-is in
-      let same : kids level rs ≡ kids (suc (r .level)) rs = ap (λ (n : ℕ). kids n rs) up in
+-- ---- from a position of a paragraph's text on
+
+-- the paragraph, and its text
+pub record Here (s : List ℕ) (g : Paragraph) (text : List ℕ) : Type 0 where
+  pub rec : Rec
+  pub rs : List Rec
+  pub rs-is : recordsIn (drop (g .behind) s) ≡ rs
+  pub is : g ≡ paragraphAt (g .number) (g .header) rec rs
+  pub units-are : units text ≡ units (bytesIn (child 67 (kids (g .level) rs)))
+  pub short : length text ≤ length s
+  pub fits : Keep rs
+  pub few : g .number ≤ g .header
+
+module _ {s text : List ℕ} {g : Paragraph} (h : Here s g text) where
+  -- the hits from a position on, with n extended controls before it
+  abbrev pub leftIn : ℕ → ℕ → ℕ → List Hit
+  leftIn id n p =
+      map (hitOf (g .number) (g .header) (h .rec) (h .rs)) (withId id (view (h .rec) (h .rs)) (fieldsIn n (tokensAt (units text) p)))
+      ++ hits id (suc (g .number)) (g .behind) (h .rs)
+
+  abbrev pub owns : List (List ℕ)
+  owns = controls (kids (g .level) (h .rs))
+
+  level-is : g .level ≡ suc (h .rec .level)
+  level-is = ap (λ (g : Paragraph). g .level) (h .is)
+
+  behind-is : g .behind ≡ g .header + size (h .rec)
+  behind-is = ap (λ (g : Paragraph). g .behind) (h .is)
+
+pub record Walking (s : List ℕ) (id : ℕ) (g : Paragraph) (text : List ℕ) (met : Met) (p : ℕ) (w : Passed) : Type 0 where
+  pub here : Here s g text
+  pub sound : faultAt (units text) p ≡ none
+  pub enough : w .ordinal + extendedIn (tokensAt (units text) p) ≡ length (owns here)
+  pub owned : drop (w .ordinal) (owns here) ≡ drop (w .skipped) (headers s (g .level) (w .from))
+  pub spots : (i j : ℕ) → i ≡ w .ordinal + j
+      → foundIn (g .level) 71 i (g .behind) (here .rs) ≡ foundIn (g .level) 71 (w .skipped + j) (w .from) (recordsIn (drop (w .from) s))
+  pub few : w .ordinal ≤ p
+  pub fewer : w .skipped ≤ w .ordinal
+  pub rest : metWith M.Nothing (hits id 0 0 (recordsIn s)) ≡ metWith met (leftIn here id (w .ordinal) p)
+
+-- ---- what stands at a place
+
+-- where it is a paragraph: its text's first position
+pub record Entered (s : List ℕ) (id : ℕ) (met : Met) (g : Paragraph) (at number : ℕ) : Type 0 where
+  pub rises : at < g .behind
+  pub inside : g .behind ≤ length s
+  pub number-is : g .number ≡ number
+  pub begins : Walking s id g (take (g .length) (drop (g .from) s)) met 0 (begun (g .behind))
+
+module _ {s : List ℕ} {id number at : ℕ} {met : Met} (bs : Bytes s) (k : Searching s id met number at) where
+  -- the paragraph header r at `at`
+  entering : (r : Rec) (rs : List Rec) → Stood s at r → recordsIn (drop at s) ≡ r ∷ rs → recordsIn (drop (at + size r) s) ≡ rs → r .tag ≡ 66
+      → Entered s id met (paragraphAt number at r rs) at number
+  unfolding view fields tokens extendedCount
+  entering r rs d e q t =
+      let level = suc (r .level) in
+      let go = at + size r in
+      let all : Keep (r ∷ rs) = subst Keep e (k .fits) in
+      let fine : Fit (view r rs) = fit (view r rs) (all .0 t) in
+      let x : TextAt s level go rs (spanOf (foundIn level 67 0 go rs)) = subst (λ (l : List Rec). TextAt s level go l (spanOf (foundIn level 67 0 go l))) q (text-at s bs level go) in
       record {
-        here = record {
-          rec = r;
-          rs = rs;
-          rs-is = refl;
-          behind-is = sym go-is;
-          level-is = up;
-          marks-is = m ∙ ap (λ (b : List ℕ). little 2 (drop 14 b)) body-is;
-          units-are = x .units-are;
-          place-is = x .place-is;
-          fits = rw go-is (fits-all k d .1);
-          few = k .few;
+        rises = omega (arith, size-least r);
+        inside = d .inside;
+        number-is = refl;
+        begins = record {
+          here = record {
+            rec = r;
+            rs = rs;
+            rs-is = q;
+            is = refl;
+            units-are = x .units-are;
+            short = omega (arith, length-take (spanOf (foundIn level 67 0 go rs) .length) (drop (spanOf (foundIn level 67 0 go rs) .from) s), length-drop (spanOf (foundIn level 67 0 go rs) .from) s);
+            fits = all .1;
+            few = k .few;
+          };
+          sound = rw (x .units-are) (sound-text (child 67 (kids level rs)) (fine .sound));
+          enough = zero-add _ ∙ rw (x .units-are) (fine .owned);
+          owned = ap (λ (l : List Rec). controls (kids level l)) (sym q);
+          spots = λ i j z. ap (λ (i : ℕ). foundIn level 71 i go rs) z ∙ ap (foundIn level 71 (0 + j) go) (sym q);
+          few = omega arith;
+          fewer = omega arith;
+          rest =
+              k .rest ∙ ap (λ (l : List Rec). metWith met (hits id number at l)) e ∙ ap (metWith met) (hits-here id number at r rs t)
+              ∙ rw (x .units-are);
         };
-        once = k .once;
-        sound = rw (x .units-are, same) (sound-text (child 67 (kids (suc (r .level)) rs)) (fine .sound));
-        enough = zero-add _ ∙ rw (x .units-are, same) (fine .owned);
-        owned = refl;
-        spots = λ j. ap (λ (i : ℕ). foundIn level 71 i go rs) (zero-add j);
-        few = omega arith;
-        rest =
-            k .rest
-            ∙ ap (λ (l : List Rec). metWith met (hits id number at l)) (d .stands .records)
-            ∙ ap (metWith met) (hits-here id number at r (recordsIn (drop (at + size r) s)) (sym (d .tag-is) ∙ t))
-            ∙ rw (← go-is, x .units-are, same);
       }
+
+  -- another record
+  passing : (r : Rec) (rs : List Rec) → recordsIn (drop at s) ≡ r ∷ rs → recordsIn (drop (at + size r) s) ≡ rs → (r .tag ≡ 66 → ⊥)
+      → Searching s id met number (at + size r)
+  passing r rs e q t =
+      record {
+        rest =
+            k .rest ∙ ap (λ (l : List Rec). metWith met (hits id number at l)) e ∙ ap (metWith met) (hits-past id number at r rs t)
+            ∙ ap (λ (l : List Rec). metWith met (hits id number (at + size r) l)) (sym q);
+        fits = subst Keep (sym q) (subst Keep e (k .fits) .1);
+        few = omega (arith, k .few);
+      }
+
+  -- a paragraph header with nothing but records 67 to 70 below it
+  baring : (r : Rec) (rs : List Rec) (end : ℕ) → recordsIn (drop at s) ≡ r ∷ rs → recordsIn (drop (at + size r) s) ≡ rs → r .tag ≡ 66
+      → bareIn (suc (r .level)) (at + size r) rs ≡ U.End end → Searching s id met (number + 1) end × (at < end)
+  unfolding view fields tokens extendedCount withId
+  baring r rs end e q t o =
+      let all : Keep (r ∷ rs) = subst Keep e (k .fits) in
+      let b = bared s bs (suc (r .level)) rs (at + size r) end q o in
+      let fine : Fit (view r rs) = fit (view r rs) (all .0 t) in
+      let none : extendedIn (tokens (units (bytesIn (child 67 (kids (suc (r .level)) rs))))) ≡ 0 = fine .owned ∙ ap length (b .none) in
+      let empty : fields (view r rs) ≡ [] = no-fields 0 0 0 (units (bytesIn (child 67 (kids (suc (r .level)) rs)))) none in (
+        record {
+          rest =
+              k .rest ∙ ap (λ (l : List Rec). metWith met (hits id number at l)) e ∙ ap (metWith met) (hits-here id number at r rs t)
+              ∙ ap (λ (fs : List Field). metWith met (map (hitOf number at r rs) (withId id (view r rs) fs) ++ hits id (suc number) (at + size r) rs)) empty
+              ∙ ap (metWith met) (b .past id (suc number))
+              ∙ ap (λ (i : ℕ). metWith met (hits id i end (recordsIn (drop end s)))) (sym (add-one number));
+          fits = b .keep (all .1);
+          few = omega (arith, k .few, b .from, size-least r);
+        },
+        omega (arith, b .from, size-least r),
+      )
+
+  -- what was seen there
+  abbrev Looked : Look → Type 0
+  Looked L.Nothing = recordsIn (drop at s) ≡ []
+  Looked (L.Other b) = Searching s id met number b × ((at < b) × (b ≤ length s))
+  Looked (L.Bare end) = Searching s id met (number + 1) end × (at < end)
+  Looked (L.Paragraph g) = Entered s id met g at number
+
+  looked-by : (rs : List Rec) → recordsIn (drop at s) ≡ rs → Looked (lookOf number at rs)
+  looked-by [] e = e
+  looked-by (r ∷ rs) e = go (eqb (r .tag) 66) refl (stood-of s at bs r rs e .0) (stood-of s at bs r rs e .1)
+    where
+      go : (b : Bool) → eqb (r .tag) 66 ≡ b → Stood s at r → recordsIn (drop (at + size r) s) ≡ rs
+          → Looked (cond b (bareOr (bareIn (suc (r .level)) (at + size r) rs) (paragraphAt number at r rs)) (L.Other (at + size r)))
+      go true t d q = by (bareIn (suc (r .level)) (at + size r) rs) refl
+        where
+          by : (x : Until) → bareIn (suc (r .level)) (at + size r) rs ≡ x → Looked (bareOr x (paragraphAt number at r rs))
+          by (U.End end) o = baring r rs end e q (eqb-true (r .tag) 66 t) o
+          by U.Other o = entering r rs d e q (eqb-true (r .tag) 66 t)
+      go false t d q = (passing r rs e q (eqb-false (r .tag) 66 t), (omega (arith, size-least r), d .inside))
+
+  looked : (x y : Look) → x ≡ lookOf number at (recordsIn (drop at s)) → x ≡ y → Looked y
+  looked x y e q = subst Looked (sym e ∙ q) (looked-by (recordsIn (drop at s)) refl)
+
+  module _ (x : Look) (e : x ≡ lookOf number at (recordsIn (drop at s))) where
+    pub look-none : x ≡ L.Nothing → met ≡ metWith M.Nothing (hits id 0 0 (recordsIn s))
+    look-none q = searching-end k (looked x L.Nothing e q)
+
+    pub look-past : (b : ℕ) → x ≡ L.Other b → Searching s id met number b × ((at < b) × (b ≤ length s))
+    look-past b q = looked x (L.Other b) e q
+
+    pub look-over : (end : ℕ) → x ≡ L.Bare end → Searching s id met (number + 1) end × (at < end)
+    look-over end q = looked x (L.Bare end) e q
+
+    pub look-in : (g : Paragraph) → x ≡ L.Paragraph g → Entered s id met g at number
+    look-in g q = looked x (L.Paragraph g) e q
+
+-- ---- a run of ordinary units
+
+fields-singles : (n p : ℕ) (x : List ℕ) (ts : List Token) → fieldsIn n (singles p x ++ ts) ≡ fieldsIn n ts
+unfolding fieldsIn singles
+fields-singles n p [] ts = refl
+fields-singles n p (u ∷ x) ts = fields-singles n (p + 1) x ts
+
+fields-run : (n : ℕ) (us : List ℕ) (p : ℕ) → fieldsIn n (tokensAt us p) ≡ fieldsIn n (tokensAt us (p + run (drop p us)))
+fields-run n us p = ap (fieldsIn n) (run-tokens us p) ∙ fields-singles n p (take (run (drop p us)) (drop p us)) (tokensAt us (p + run (drop p us)))
+
+module _ {s text : List ℕ} {id p : ℕ} {g : Paragraph} {met : Met} {w : Passed} (k : Walking s id g text met p w) where
+  abbrev leftOf : List Field → List Hit
+  leftOf fs =
+      map (hitOf (g .number) (g .header) (k .here .rec) (k .here .rs)) (withId id (view (k .here .rec) (k .here .rs)) fs)
+      ++ hits id (suc (g .number)) (g .behind) (k .here .rs)
+
+  walking-run : Walking s id g text met (p + run (drop p (units text))) w
+  walking-run =
+      record {
+        here = k .here;
+        sound = sym (run-fault (units text) p) ∙ k .sound;
+        enough = rw (← run-extended (units text) p) (k .enough);
+        owned = k .owned;
+        spots = k .spots;
+        few = omega (arith, k .few);
+        fewer = k .fewer;
+        rest = k .rest ∙ ap (λ (fs : List Field). metWith met (leftOf fs)) (fields-run (w .ordinal) (units text) p);
+      }
+
+  pub walking-to : (c : Cursor) → c ≡ cursor (p + run (drop p (units text))) → Walking s id g text met (c .at .0) w
+  walking-to c e = rw e walking-run
 
 -- ---- a step
 
@@ -276,271 +357,274 @@ module _ (id : ℕ) (v : View) (f : Field) (fs : List Field) where
   unfolding withId
   with-other e = rw (ne-eqb (idOf v f) id e)
 
+-- what owns a control header
+owner-is : (x : Standing) (code : ℕ) → ownerOf x ≡ O.Owner code → (k : Control) × (x ≡ St.Control k) × (k .class ≡ Extended) × (k .code ≡ code)
+owner-is (St.Ordinary u) code e = absurd (let z : _≡_ {A = ℕ} 0 1 = cc in omega arith)
+owner-is (St.Control k) code e = by (k .class) refl e
+  where
+    by : (a : Class) → k .class ≡ a → elim a [ Character ↦ O.Nobody | Inline ↦ O.Nobody | Extended ↦ O.Owner (k .code) ] ≡ O.Owner code
+        → (j : Control) × (St.Control k ≡ St.Control j) × (j .class ≡ Extended) × (j .code ≡ code)
+    by Character h q = absurd (let z : _≡_ {A = ℕ} 0 1 = cc in omega arith)
+    by Inline h q = absurd (let z : _≡_ {A = ℕ} 0 1 = cc in omega arith)
+    by Extended h q = (k, refl, h, cc)
+
 -- what is left behind a step: of the hits, and of the control headers
-record Stepped (s : List ℕ) (id number at level behind from marks : ℕ) (text : List ℕ) (g : Here s number at level behind from marks text)
-    (p n c q : ℕ) (x : Seen) : Type 0 where
-  enough : x .passed .ordinal + extendedIn (tokensAt (units text) q) ≡ length (owns g)
-  owned : drop (x .passed .ordinal) (owns g) ≡ controls (kids level (recordsIn (drop (x .passed .from) s)))
-  spots : (k : ℕ) → foundIn level 71 (x .passed .ordinal + k) behind (g .rs) ≡ foundIn level 71 k (x .passed .from) (recordsIn (drop (x .passed .from) s))
-  few : x .passed .ordinal ≤ n + 1
-  none-here : x .field ≡ false → leftIn g id n p ≡ leftIn g id (x .passed .ordinal) q
-  width-is : x .field ≡ true → q ≡ p + 8
-  found-here : x .field ≡ true → leftIn g id n p ≡ hitOf number at (g .rec) (g .rs) (fieldAt n p (next (tokensAt (units text) q))) ∷ leftIn g id (x .passed .ordinal) q
-  control-is : x .field ≡ true → x .control ≡ placeFound (foundIn level 71 n behind (g .rs))
+record Stepped (s : List ℕ) (id : ℕ) (g : Paragraph) (text : List ℕ) (h : Here s g text) (p n q : ℕ) (y : Seen) : Type 0 where
+  enough : y .passed .ordinal + extendedIn (tokensAt (units text) q) ≡ length (owns h)
+  owned : drop (y .passed .ordinal) (owns h) ≡ drop (y .passed .skipped) (headers s (g .level) (y .passed .from))
+  spots : (i j : ℕ) → i ≡ y .passed .ordinal + j
+      → foundIn (g .level) 71 i (g .behind) (h .rs) ≡ foundIn (g .level) 71 (y .passed .skipped + j) (y .passed .from) (recordsIn (drop (y .passed .from) s))
+  few : y .passed .ordinal ≤ n + 1
+  fewer : y .passed .skipped ≤ y .passed .ordinal
+  none-here : y .field ≡ false → leftIn h id n p ≡ leftIn h id (y .passed .ordinal) q
+  width-is : y .field ≡ true → q ≡ p + 8
+  found-here : y .field ≡ true
+      → leftIn h id n p ≡ hitOf (g .number) (g .header) (h .rec) (h .rs) (fieldAt n p (next (tokensAt (units text) q))) ∷ leftIn h id (y .passed .ordinal) q
+  control-is : y .field ≡ true → y .control ≡ placeFound (foundIn (g .level) 71 n (g .behind) (h .rs))
 
 not-both : {A : Type 0} {b : Bool} → b ≡ false → b ≡ true → A
 not-both e h = absurd (let z : _≡_ {A = ℕ} 0 1 = cc in omega arith)
 
-module _ {s text : List ℕ} {id number at level behind from marks p n c q : ℕ} {met : Met} {x : Standing} (bs : Bytes s)
-    (w : Walking s id number at level behind from marks text met p n c) (o : Onward (units text) p x q) where
-  abbrev place : Here s number at level behind from marks text
-  place = w .here
+module _ {s text : List ℕ} {id p q : ℕ} {g : Paragraph} {met : Met} {w : Passed} {x : Standing} (bs : Bytes s)
+    (k : Walking s id g text met p w) (o : Onward (units text) p x q) where
+  abbrev place : Here s g text
+  place = k .here
+
+  abbrev n : ℕ
+  n = w .ordinal
 
   abbrev ahead : List Token
   ahead = tokensAt (units text) q
 
   abbrev After : Seen → Type 0
-  After y = Stepped s id number at level behind from marks text place p n c q y
+  After y = Stepped s id g text place p n q y
 
   abbrev viewed : View
   viewed = view (place .rec) (place .rs)
 
   -- a step that passes no control header
-  stay : fieldsIn n (tokensAt (units text) p) ≡ fieldsIn n ahead → extendedIn (tokensAt (units text) p) ≡ extendedIn ahead
-      → After (unseen (record { ordinal = n; from = c }))
+  stay : fieldsIn n (tokensAt (units text) p) ≡ fieldsIn n ahead → extendedIn (tokensAt (units text) p) ≡ extendedIn ahead → After (unseen w)
   stay f e =
       record {
-        enough = rw (← e) (w .enough);
-        owned = w .owned;
-        spots = w .spots;
+        enough = rw (← e) (k .enough);
+        owned = k .owned;
+        spots = k .spots;
         few = omega arith;
-        none-here = λ h. ap (λ (fs : List Field). map (hitOf number at (place .rec) (place .rs)) (withId id viewed fs) ++ hits id (suc number) behind (place .rs)) f;
+        fewer = k .fewer;
+        none-here = λ h. ap (leftOf k) f;
         width-is = λ h. not-both refl h;
         found-here = λ h. not-both refl h;
         control-is = λ h. not-both refl h;
       }
 
-  stay-ordinary : {u : ℕ} → x ≡ St.Ordinary u → After (unseen (record { ordinal = n; from = c }))
-  unfolding extendedIn
-  stay-ordinary e =
-      stay (ap (fieldsIn n) (o .tokens) ∙ fields-ordinary (record { at = p; what = x }) ahead n e)
-      (ap extendedIn (o .tokens) ∙ rw e (zero-add _))
+  -- another class has another code
+  three-not : (c : Control) {a : Class} → x ≡ St.Control c → c .class ≡ a → c .code ≡ 3 → (a ≡ Extended → ⊥) → ⊥
+  three-not c is h z other =
+      let u = unit-of (units text) p x ahead (o .tokens) in
+      other (sym h ∙ field-extended (u .0) c (u .1 ∙ is) z)
 
-  stay-control : (k : Control) → x ≡ St.Control k → isExtended (St.Control k) ≡ 0 → (k .code ≡ 3 → ⊥) → After (unseen (record { ordinal = n; from = c }))
+  stay-nobody : ownerOf x ≡ O.Nobody → After (unseen w)
   unfolding extendedIn
-  stay-control k e z h =
-      stay (ap (fieldsIn n) (o .tokens) ∙ fields-other (record { at = p; what = x }) ahead n e h ∙ ap (λ (m : ℕ). fieldsIn m ahead) (rw z (zero-add n)))
-      (ap extendedIn (o .tokens) ∙ rw (e, z) (zero-add _))
+  stay-nobody e = go x refl e
+    where
+      control : (c : Control) → x ≡ St.Control c → isExtended (St.Control c) ≡ 0 → (c .code ≡ 3 → ⊥) → After (unseen w)
+      control c e z h =
+          stay (ap (fieldsIn n) (o .tokens) ∙ fields-other (record { at = p; what = x }) ahead n e h ∙ ap (λ (m : ℕ). fieldsIn m ahead) (rw z (zero-add n)))
+          (ap extendedIn (o .tokens) ∙ ap (λ (y : Standing). isExtended y + extendedIn ahead) e ∙ rw z (zero-add _))
+
+      by : (a : Class) (c : Control) → x ≡ St.Control c → c .class ≡ a → elim a [ Character ↦ O.Nobody | Inline ↦ O.Nobody | Extended ↦ O.Owner (c .code) ] ≡ O.Nobody → After (unseen w)
+      by Character c is h q = control c is (rw h) (λ z. three-not c is h z (λ r. let y : _≡_ {A = ℕ} 0 1 = cc in omega arith))
+      by Inline c is h q = control c is (rw h) (λ z. three-not c is h z (λ r. let y : _≡_ {A = ℕ} 0 1 = cc in omega arith))
+      by Extended c is h q = absurd (let z : _≡_ {A = ℕ} 0 1 = cc in omega arith)
+
+      go : (y : Standing) → x ≡ y → ownerOf y ≡ O.Nobody → After (unseen w)
+      go (St.Ordinary u) is q =
+          stay (ap (fieldsIn n) (o .tokens) ∙ fields-ordinary (record { at = p; what = x }) ahead n is)
+          (ap extendedIn (o .tokens) ∙ ap (λ (y : Standing). isExtended y + extendedIn ahead) is ∙ zero-add _)
+      go (St.Control c) is q = by (c .class) c is refl q
 
   -- an extended control
-  module _ (k : Control) (is : x ≡ St.Control k) (ext : k .class ≡ Extended) where
-    one : isExtended (St.Control k) ≡ 1
+  module _ (c : Control) (is : x ≡ St.Control c) (ext : c .class ≡ Extended) where
+    one : isExtended (St.Control c) ≡ 1
     one = rw ext
 
     more : extendedIn (tokensAt (units text) p) ≡ 1 + extendedIn ahead
     unfolding extendedIn
-    more = ap extendedIn (o .tokens) ∙ rw (is, one)
+    more = ap extendedIn (o .tokens) ∙ ap (λ (y : Standing). isExtended y + extendedIn ahead) is ∙ ap (λ (m : ℕ). m + extendedIn ahead) one
 
-    -- it owns a control header
-    there : foundIn level 71 0 c (recordsIn (drop c s)) ≡ P.Nothing → ⊥
-    there e =
-        let l : length (drop n (owns place)) ≡ 0 = ap length (w .owned ∙ unowned level 71 c (recordsIn (drop c s)) e .1 refl) in
-        omega (arith, length-drop n (owns place), w .enough, more)
+    up : isExtended (St.Control c) + n ≡ n + 1
+    up = omega (arith, one)
 
-    module _ (t : Part) (e : foundIn level 71 0 c (recordsIn (drop c s)) ≡ P.At t) where
-      d : Owned s level 71 c (recordsIn (drop c s)) t
-      d = owned s bs level 71 c (recordsIn (drop c s)) t refl e
+    -- that is no field
+    step-other : (c .code ≡ 3 → ⊥) → After (seenOf s id w K.Other)
+    step-other h =
+        record {
+          enough = omega (arith, k .enough, more);
+          owned = sym (drop-drop 1 n (owns place)) ∙ ap (drop 1) (k .owned) ∙ drop-drop 1 (w .skipped) (headers s (g .level) (w .from));
+          spots = λ i j z.
+              k .spots i (suc j) (omega arith)
+              ∙ ap (λ (m : ℕ). foundIn (g .level) 71 m (w .from) (recordsIn (drop (w .from) s))) (over j);
+          few = omega arith;
+          fewer = omega (arith, k .fewer);
+          none-here = λ z.
+              ap (leftOf k)
+              (ap (fieldsIn n) (o .tokens) ∙ fields-other (record { at = p; what = x }) ahead n is h ∙ ap (λ (m : ℕ). fieldsIn m ahead) up);
+          width-is = λ z. not-both refl z;
+          found-here = λ z. not-both refl z;
+          control-is = λ z. not-both refl z;
+        }
+      where
+        over : (j : ℕ) → w .skipped + suc j ≡ w .skipped + 1 + j
+        over j = omega arith
 
-      front : drop n (owns place) ≡ bodyAt s t ∷ controls (kids level (d .rest))
-      front = w .owned ∙ d .controls-are refl
+    -- each owns a control header
+    step-lacking : {A : Type 0} → drop (w .skipped) (headers s (g .level) (w .from)) ≡ [] → A
+    step-lacking e =
+        absurd
+        (let l : length (drop n (owns place)) ≡ 0 = ap length (k .owned ∙ e) in
+        omega (arith, length-drop n (owns place), k .enough, more))
 
-      -- the id that is read is that of the field
+    -- a field
+    module _ (three : c .code ≡ 3) (t : Part) (d : Owning s (g .level) (w .skipped) (w .from) t) where
+      front : drop n (owns place) ≡ bodyOf s t ∷ headers s (g .level) (behind t)
+      front = k .owned ∙ d .headers-are
+
       abbrev here-field : Field
       here-field = fieldAt n p (next ahead)
 
-      id-is : idOf viewed here-field ≡ idIn (bodyAt s t)
+      -- the id that is read is that of the field
+      id-is : idOf viewed here-field ≡ idIn (bodyOf s t)
       unfolding idOf view
       id-is =
           ap idIn
-          (ap₂ (λ (l i : ℕ). getD (controls (kids l (place .rs))) i []) (sym (place .level-is)) (field-ordinal n p (next ahead) ∙ sym (add-zero n))
+          (ap₂ (λ (l i : ℕ). getD (controls (kids l (place .rs))) i []) (sym (level-is place)) (field-ordinal n p (next ahead) ∙ sym (add-zero n))
           ∙ sym (getD-drop n (owns place) 0 [])
           ∙ ap (λ (l : List (List ℕ)). getD l 0 []) front)
 
-      up : isExtended (St.Control k) + n ≡ n + 1
-      up = omega (arith, one)
+      fields-three : fieldsIn n (tokensAt (units text) p) ≡ here-field ∷ fieldsIn (n + 1) ahead
+      fields-three =
+          ap (fieldsIn n) (o .tokens) ∙ fields-field (record { at = p; what = x }) ahead n is three ∙ ap (λ (m : ℕ). here-field ∷ fieldsIn m ahead) up
 
-      abbrev whole : List Field → List Hit
-      whole fs = map (hitOf number at (place .rec) (place .rs)) (withId id viewed fs) ++ hits id (suc number) behind (place .rs)
+      abbrev hitsOf : List Field → List Hit
+      hitsOf fs = map (hitOf (g .number) (g .header) (place .rec) (place .rs)) fs ++ hits id (suc (g .number)) (g .behind) (place .rs)
 
-      fields-three : k .code ≡ 3 → fieldsIn n (tokensAt (units text) p) ≡ here-field ∷ fieldsIn (n + 1) ahead
-      fields-three h =
-          ap (fieldsIn n) (o .tokens) ∙ fields-field (record { at = p; what = x }) ahead n is h ∙ ap (λ (m : ℕ). here-field ∷ fieldsIn m ahead) up
-
-      fields-else : (k .code ≡ 3 → ⊥) → fieldsIn n (tokensAt (units text) p) ≡ fieldsIn (n + 1) ahead
-      fields-else h = ap (fieldsIn n) (o .tokens) ∙ fields-other (record { at = p; what = x }) ahead n is h ∙ ap (λ (m : ℕ). fieldsIn m ahead) up
-
-      abbrev test : Bool
-      test = eqb (k .code) 3 && eqb (idIn (bodyAt s t)) id
-
-      met-none : test ≡ false → whole (fieldsIn n (tokensAt (units text) p)) ≡ whole (fieldsIn (n + 1) ahead)
-      met-none h = elim (eq-or (k .code) 3) [
-        | inr a ↦ ap whole (fields-else a)
-        | inl a ↦
-            (let b : eqb (idIn (bodyAt s t)) id ≡ false = rw (eq-eqb (k .code) 3 a) at h in
-            ap whole (fields-three a)
-            ∙ ap (λ (fs : List Field). map (hitOf number at (place .rec) (place .rs)) fs ++ hits id (suc number) behind (place .rs))
-            (with-other id viewed here-field (fieldsIn (n + 1) ahead) (λ r. eqb-false (idIn (bodyAt s t)) id b (sym id-is ∙ r))))
-      ]
-
-      three : test ≡ true → (k .code ≡ 3) × (idIn (bodyAt s t) ≡ id)
-      three h = elim (eq-or (k .code) 3) [
-        | inr a ↦ not-both (rw (ne-eqb (k .code) 3 a)) h
-        | inl a ↦ (a, eqb-true (idIn (bodyAt s t)) id (rw (eq-eqb (k .code) 3 a) at h))
-      ]
-
-      met-one : test ≡ true → whole (fieldsIn n (tokensAt (units text) p)) ≡ hitOf number at (place .rec) (place .rs) here-field ∷ whole (fieldsIn (n + 1) ahead)
-      met-one h =
-          ap whole (fields-three (three h .0))
-          ∙ ap (λ (fs : List Field). map (hitOf number at (place .rec) (place .rs)) fs ++ hits id (suc number) behind (place .rs))
-          (with-here id viewed here-field (fieldsIn (n + 1) ahead) (id-is ∙ three h .1))
-
-      own : After (ownedBy s id (k .code) n t)
-      own =
+      step-header : After (seenOf s id w (K.Header t))
+      step-header =
           record {
-            enough = omega (arith, w .enough, more);
-            owned =
-                sym (drop-drop 1 n (owns place)) ∙ ap (drop 1) front ∙ ap (λ (l : List Rec). controls (kids level l)) (sym (d .rest-is));
-            spots = λ j.
-                ap (λ (i : ℕ). foundIn level 71 i behind (place .rs)) (later j) ∙ w .spots (suc j) ∙ d .later j
-                ∙ ap (foundIn level 71 j (part-end t)) (sym (d .rest-is));
+            enough = omega (arith, k .enough, more);
+            owned = sym (drop-drop 1 n (owns place)) ∙ ap (drop 1) front;
+            spots = λ i j z.
+                k .spots i (suc j) (omega arith) ∙ d .later (w .skipped + suc j) j (later j)
+                ∙ ap (λ (m : ℕ). foundIn (g .level) 71 m (behind t) (recordsIn (drop (behind t) s))) (sym (zero-add j));
             few = omega arith;
-            none-here = met-none;
+            fewer = omega arith;
+            none-here = λ h.
+                ap (leftOf k) fields-three
+                ∙ ap hitsOf (with-other id viewed here-field (fieldsIn (n + 1) ahead) (λ r. eqb-false (idIn (bodyOf s t)) id h (sym id-is ∙ r)));
             width-is = λ h. o .further ∙ rw (is, ext);
-            found-here = met-one;
-            control-is = λ h. sym (ap placeFound e) ∙ ap placeFound (sym (w .spots 0) ∙ ap (λ (i : ℕ). foundIn level 71 i behind (place .rs)) (add-zero n));
+            found-here = λ h.
+                ap (leftOf k) fields-three
+                ∙ ap hitsOf (with-here id viewed here-field (fieldsIn (n + 1) ahead) (id-is ∙ eqb-true (idIn (bodyOf s t)) id h));
+            control-is = λ h. sym (ap placeFound (k .spots n 0 (sym (add-zero n)) ∙ ap (λ (m : ℕ). foundIn (g .level) 71 m (w .from) (recordsIn (drop (w .from) s))) (add-zero (w .skipped)) ∙ d .found));
           }
         where
-          later : (j : ℕ) → n + 1 + j ≡ n + suc j
+          later : (j : ℕ) → w .skipped + suc j ≡ suc (w .skipped + j)
           later j = omega arith
 
-  -- another class has another code
-  three-not : (k : Control) {a : Class} → x ≡ St.Control k → k .class ≡ a → k .code ≡ 3 → (a ≡ Extended → ⊥) → ⊥
-  three-not k is h z other =
-      let u = unit-of (units text) p x ahead (o .tokens) in
-      other (sym h ∙ field-extended (u .0) k (u .1 ∙ is) z)
-
   -- every step
-  stepped : (y : Seen) → y ≡ seenOf s id (record { ordinal = n; from = c }) x (foundIn level 71 0 c (recordsIn (drop c s))) → After y
-  stepped y e = rw e (go x refl)
-    where
-      by : (f : Found) (k : Control) → foundIn level 71 0 c (recordsIn (drop c s)) ≡ f → x ≡ St.Control k → k .class ≡ Extended
-          → After (seenAt s id (record { ordinal = n; from = c }) (k .code) f)
-      by P.Nothing k h is ext = absurd (there k is ext h)
-      by (P.At t) k h is ext = own k is ext t h
+  abbrev Found-there : Owned → Type 0
+  Found-there a = Outcome s (g .level) (w .skipped) (w .from) (ownerOf x) a
 
-      class-by : (a : Class) (k : Control) → x ≡ St.Control k → k .class ≡ a
-          → After (seenOf s id (record { ordinal = n; from = c }) (St.Control k) (foundIn level 71 0 c (recordsIn (drop c s))))
-      class-by Character k is h = rw h (stay-control k is (rw h) (λ z. three-not k is h z (λ r. let y : _≡_ {A = ℕ} 0 1 = cc in omega arith)))
-      class-by Inline k is h = rw h (stay-control k is (rw h) (λ z. three-not k is h z (λ r. let y : _≡_ {A = ℕ} 0 1 = cc in omega arith)))
-      class-by Extended k is h = rw h (by (foundIn level 71 0 c (recordsIn (drop c s))) k refl is h)
+  step-by : (a : Owned) → Found-there a → After (seenOf s id w a)
+  step-by K.Nobody e = stay-nobody e
+  step-by K.Other e =
+      let u = owner-is x (e .0) (e .1) in
+      step-other (u .0) (u .1) (u .2) (λ z. eqb-false (e .0) 3 (e .2) (sym (u .3) ∙ z))
+  step-by K.Lacking e = let u = owner-is x 3 (e .0) in step-lacking (u .0) (u .1) (u .2) (e .1)
+  step-by (K.Header t) e = let u = owner-is x 3 (e .0) in step-header (u .0) (u .1) (u .2) (u .3) t (e .1)
 
-      go : (z : Standing) → x ≡ z → After (seenOf s id (record { ordinal = n; from = c }) z (foundIn level 71 0 c (recordsIn (drop c s))))
-      go (St.Ordinary u) is = stay-ordinary is
-      go (St.Control k) is = class-by (k .class) k is refl
+  abbrev stands : Owned
+  stands = ownedBy (g .level) (w .skipped) (w .from) (recordsIn (drop (w .from) s)) (ownerOf x)
 
-  module _ (y : Seen) (e : y ≡ seenOf s id (record { ordinal = n; from = c }) x (foundIn level 71 0 c (recordsIn (drop c s)))) where
-    walked : (m : Met) → Open m → metWith M.Nothing (hits id 0 0 (recordsIn s)) ≡ metWith m (leftIn place id (y .passed .ordinal) q)
-        → Walking s id number at level behind from marks text m q (y .passed .ordinal) (y .passed .from)
-    walked m k r =
+  stepped : (y : Seen) → y ≡ seenOf s id w stands → After y
+  stepped y e = subst After (sym e) (step-by stands (outcome s bs (g .level) (w .skipped) (w .from) (ownerOf x) stands stands refl refl))
+
+  module _ (y : Seen) (e : y ≡ seenOf s id w (ownedBy (g .level) (w .skipped) (w .from) (recordsIn (drop (w .from) s)) (ownerOf x))) where
+    abbrev this : Hit
+    this = hitOf (g .number) (g .header) (place .rec) (place .rs) (fieldAt n p (next ahead))
+
+    abbrev hit : told-hit.Hit
+    hit = hitFrom g n p (y .control) (closingOf (next (tokensAt (units text) (p + 8))))
+
+    this-is : y .field ≡ true → hit ≡ told this
+    unfolding hitOf
+    this-is h =
+        let t = stepped y e in
+        let goes : next (tokensAt (units text) (p + 8)) ≡ next ahead = ap (λ (i : ℕ). next (tokensAt (units text) i)) (sym (t .width-is h)) in
+        same-hit
+        (ap (λ (g : Paragraph). g .from) (place .is) ∙ from-is (foundIn (suc (place .rec .level)) 67 0 (g .header + size (place .rec)) (place .rs)))
+        (t .control-is h
+        ∙ ap₂ (λ (l b : ℕ). placeFound (foundIn l 71 n b (place .rs))) (level-is place) (behind-is place)
+        ∙ ap (λ (i : ℕ). placeFound (foundIn (suc (place .rec .level)) 71 i (g .header + size (place .rec)) (place .rs))) (sym (field-ordinal n p (next ahead))))
+        (ap (λ (g : Paragraph). g .marks) (place .is))
+        (sym (field-ordinal n p (next ahead)))
+        (sym (field-a n p (next ahead)))
+        (ap (λ (o : Option (ℕ × ℕ)). closingOf o .b) goes ∙ sym (field-b n p (next ahead)))
+        (ap (λ (o : Option (ℕ × ℕ)). closingOf o .plain) goes ∙ sym (field-plain n p (next ahead)))
+      where
+        from-is : (f : Found) → spanOf f .from ≡ firstByte f
+        from-is (P.At p) = refl
+        from-is P.Nothing = refl
+
+    met-by : (b : Bool) → y .field ≡ b → metWith M.Nothing (hits id 0 0 (recordsIn s)) ≡ metWith (cond b (metNext met hit) met) (leftIn place id (y .passed .ordinal) q)
+    unfolding metWith
+    met-by true h =
+        k .rest ∙ ap (metWith met) (stepped y e .found-here h)
+        ∙ ap (λ (z : told-hit.Hit). metWith (metNext met z) (leftIn place id (y .passed .ordinal) q)) (sym (this-is h))
+    met-by false h = k .rest ∙ ap (metWith met) (stepped y e .none-here h)
+
+    pub walking-on : (m : Met) (p′ : ℕ) → p′ ≡ p → m ≡ metBy met y (hitFrom g n p′ (y .control) (closingOf (next (tokensAt (units text) (p′ + 8)))))
+        → Walking s id g text m q (y .passed)
+    walking-on m p′ z f =
         let t = stepped y e in
         record {
           here = place;
-          once = k;
-          sound = sym (o .fault) ∙ w .sound;
+          sound = sym (o .fault) ∙ k .sound;
           enough = t .enough;
           owned = t .owned;
           spots = t .spots;
-          few = omega (arith, t .few, w .few, o .rises);
-          rest = r;
+          few = omega (arith, t .few, k .few, o .rises);
+          fewer = t .fewer;
+          rest =
+              met-by (y .field) refl
+              ∙ ap (λ (m : Met). metWith m (leftIn place id (y .passed .ordinal) q))
+              (ap (λ (i : ℕ). metBy met y (hitFrom g n i (y .control) (closingOf (next (tokensAt (units text) (i + 8)))))) (sym z) ∙ sym f);
         }
 
-    -- no field with the id
-    pub walking-on : y .field ≡ false → Walking s id number at level behind from marks text met q (y .passed .ordinal) (y .passed .from)
-    walking-on h = walked met (w .once) (w .rest ∙ ap (metWith met) (stepped y e .none-here h))
+module _ {s text : List ℕ} {id p : ℕ} {g : Paragraph} {met : Met} {w : Passed} (k : Walking s id g text met p w) where
+  -- the second leaves both loops
+  pub walking-twice : {x : Offset} → met ≡ M.Twice x → met ≡ metWith M.Nothing (hits id 0 0 (recordsIn s))
+  walking-twice {x} e =
+      e ∙ sym (k .rest ∙ ap (λ (m : Met). metWith m (leftIn (k .here) id (w .ordinal) p)) e ∙ met-twice x (leftIn (k .here) id (w .ordinal) p))
 
-    module _ (h : y .field ≡ true) where
-      abbrev this : Hit
-      this = hitOf number at (place .rec) (place .rs) (fieldAt n p (next ahead))
+  -- behind the text
+  pub walking-end : {number : ℕ} → g .number ≡ number → Ended (units text) p → Searching s id met (number + 1) (g .behind)
+  unfolding fieldsIn withId
+  walking-end {number} b e =
+      record {
+        rest = k .rest ∙ rw (e .tokens, k .here .rs-is, add-one number, ← b);
+        fits = rw (k .here .rs-is) (k .here .fits);
+        few = omega (arith, k .here .few, b, behind-is (k .here), size-least (k .here .rec));
+      }
 
-      met-all : metWith M.Nothing (hits id 0 0 (recordsIn s)) ≡ metWith (metNext met this) (leftIn place id (y .passed .ordinal) q)
-      unfolding metWith
-      met-all = w .rest ∙ ap (metWith met) (stepped y e .found-here h)
+  -- no text that stands breaks a rule
+  pub walking-broken : {i : ℕ} {A : Type 0} → faultAt (units text) p ≡ some i → A
+  walking-broken e = absurd (let z : _≡_ {A = Option ℕ} none (some _) = sym (k .sound) ∙ e in let y : _≡_ {A = ℕ} 0 1 = cc in omega arith)
 
-      -- the second
-      pub walking-twice : {k : told-hit.Hit} → met ≡ M.One k → M.Twice (record { 0 = y .control }) ≡ metWith M.Nothing (hits id 0 0 (recordsIn s))
-      unfolding hitOf
-      walking-twice {k} f =
-          sym
-          (met-all
-          ∙ ap (λ (m : Met). metWith (metNext m this) (leftIn place id (y .passed .ordinal) q)) f
-          ∙ met-twice (this .control) (leftIn place id (y .passed .ordinal) q)
-          ∙ ap (λ (i : ℕ). M.Twice (record { 0 = i }))
-          (rw (← (place .level-is), place .behind-is, field-ordinal n p (next ahead)) (sym (stepped y e .control-is h))))
+  -- what the code asks of its numbers
+  module _ {q : ℕ} {x : Standing} (o : Onward (units text) p x q) where
+    pub walking-few : w .ordinal ≤ length s
+    walking-few = omega (arith, k .few, o .rises, o .fits, length-units text, k .here .short)
 
-      -- the first
-      this-is : hitFrom (record { number = number; header = at; text = from; marks = marks }) n p (y .control) (closingOf (next (tokensAt (units text) (p + 8)))) ≡ told this
-      unfolding hitOf
-      this-is =
-          let t = stepped y e in
-          let goes : next (tokensAt (units text) (p + 8)) ≡ next ahead = ap (λ (i : ℕ). next (tokensAt (units text) i)) (sym (t .width-is h)) in
-          let behind-is = place .behind-is in
-          same-hit
-          (place .place-is ∙ ap₂ (λ (l b : ℕ). firstByte (foundIn l 67 0 b (place .rs))) (place .level-is) (sym behind-is))
-          (t .control-is h
-          ∙ ap₂ (λ (l b : ℕ). placeFound (foundIn l 71 n b (place .rs))) (place .level-is) (sym behind-is)
-          ∙ ap (λ (i : ℕ). placeFound (foundIn (suc (place .rec .level)) 71 i (at + size (place .rec)) (place .rs))) (sym (field-ordinal n p (next ahead))))
-          (place .marks-is)
-          (sym (field-ordinal n p (next ahead)))
-          (sym (field-a n p (next ahead)))
-          (ap (λ (o : Option (ℕ × ℕ)). closingOf o .b) goes ∙ sym (field-b n p (next ahead)))
-          (ap (λ (o : Option (ℕ × ℕ)). closingOf o .plain) goes ∙ sym (field-plain n p (next ahead)))
-
-      pub walking-first : {r : told-hit.Hit} {p′ : ℕ} → met ≡ M.Nothing → p′ ≡ p
-          → r ≡ hitFrom (record { number = number; header = at; text = from; marks = marks }) n p′ (y .control) (closingOf (next (tokensAt (units text) (p′ + 8))))
-          → Walking s id number at level behind from marks text (M.One r) q (y .passed .ordinal) (y .passed .from)
-      walking-first {r} f z g =
-          walked (M.One r) tt
-          (met-all
-          ∙ ap (λ (m : Met). metWith (metNext m this) (leftIn place id (y .passed .ordinal) q)) f
-          ∙ ap (λ (k : told-hit.Hit). metWith (M.One k) (leftIn place id (y .passed .ordinal) q)) (sym (g ∙ ap (λ (i : ℕ). hitFrom (record { number = number; header = at; text = from; marks = marks }) n i (y .control) (closingOf (next (tokensAt (units text) (i + 8))))) z ∙ this-is)))
-
--- behind the text
-pub walking-end : {s text : List ℕ} {id number at level behind from marks p n c : ℕ} {met : Met}
-    → Walking s id number at level behind from marks text met p n c → tokensAt (units text) p ≡ [] → at ≤ behind → Searching s id met (number + 1) behind
-unfolding fieldsIn withId
-walking-end {s} {text} {id} {number} {at} {level} {behind} w e l =
-    record {
-      rest = w .rest ∙ rw (e, w .here .rs-is, add-one number);
-      fits = rw (w .here .rs-is) (w .here .fits);
-      few = omega (arith, w .here .few, w .here .behind-is, size-least (w .here .rec));
-      once = w .once;
-    }
-
--- no text that stands breaks a rule
-pub walking-broken : {s text : List ℕ} {id number at level behind from marks p n c i : ℕ} {met : Met} {A : Type 0}
-    → Walking s id number at level behind from marks text met p n c → faultAt (units text) p ≡ some i → A
-walking-broken w e = absurd (let z : _≡_ {A = Option ℕ} none (some _) = sym (w .sound) ∙ e in let y : _≡_ {A = ℕ} 0 1 = cc in omega arith)
-
--- what the code asks of its numbers
-pub walking-few : {s text : List ℕ} {id number at level behind from marks p n c q : ℕ} {met : Met} {x : Standing} (to : ℕ)
-    → Walking s id number at level behind from marks text met p n c → Onward (units text) p x q → text ≡ take (to - from) (drop from s) → n ≤ length s
-walking-few {s} {text} {from = from} to w o e =
-    omega (arith, w .few, o .rises, o .fits, length-units text, ap length e, length-take (to - from) (drop from s), length-drop from s)
-
-pub walking-long : (text : List ℕ) {p q r : ℕ} {x : Standing} → Onward (units text) p x q → r ≡ p → r < length text
-walking-long text o e = omega (arith, o .rises, o .fits, length-units text)
-
--- the loops are left at the second field
-pub walking-never : {s text : List ℕ} {id number at level behind from marks p n c : ℕ} {met : Met} {k : Offset} {A : Type 0}
-    → Walking s id number at level behind from marks text met p n c → met ≡ M.Twice k → A
-walking-never w e = absurd (subst Open e (w .once))
+    pub walking-long : {r : ℕ} → r ≡ p → r < length text
+    walking-long e = omega (arith, o .rises, o .fits, length-units text)

@@ -1,17 +1,14 @@
 -- What the calls below know of a section that check accepted (document 01, 'Records' and 'Paragraphs').
 use Prim.Native.Nat.{ℕ}
 use mathlib.Core.Path.{_≡_}
-use mathlib.Core.List.{List, [], _∷_}
+use mathlib.Core.List.{List}
 use Rattle.records.specs.Records.{Rec, encode}
-use Rattle.paragraph.specs.View.{view}
 use Rattle.paragraph.specs.Stream.{recordsIn}
-use Rattle.paragraph.specs.Rules.{paragraphFault}
-use Rattle.paragraph.specs.declared.finding.Finding.the-variants as G
+use Rattle.acceptance.specs.Section.{AllKeep}
 
--- every paragraph keeps its rules
+-- every paragraph keeps its rules (`acceptance`)
 abbrev pub Keep : List Rec → Type 0
-Keep [] = Unit {0}
-Keep (r ∷ rs) = (r .tag ≡ 66 → paragraphFault (view r rs) ≡ G.Lawful) × Keep rs
+Keep rs = AllKeep rs
 
 -- the stream is its records, and they keep the paragraphs' rules
 pub record Sound (s : List ℕ) : Type 0 where

@@ -15,24 +15,42 @@ use Rattle.records.specs.Records.{Rec, limit, encodeOne, encode, size}
 use Rattle.records.proofs.ReadingLaws.{length-encodeOne}
 use Rattle.text.proofs.Cases.{eq-or}
 use Rattle.paragraph.specs.View.{kids, View, view, views, child}
-use Rattle.paragraph.specs.Rules.{countsOf, paragraphFault}
-use Rattle.paragraph.specs.declared.finding.Finding.the-variants as G
+use Rattle.paragraph.specs.Rules.{countsOf}
 use Rattle.paragraph.proofs.BodyLaws.{kids-beyond, kids-owned, kids-passed, child-here, child-other}
+use Rattle.acceptance.specs.Keeps.{Keeps}
+use Rattle.acceptance.specs.Section.{AllKeep}
 use Rattle.filling.specs.Replacing.{replaced}
 use Rattle.filling.specs.Shapes.{Entry, packed, Starts, shapesIn}
 use Rattle.filling.specs.Fields.{Field, fields}
 use Rattle.filling.specs.Editing.{Change, Edit, withBody, put, countControl, editView, editBehind, editAt, modified}
-use Rattle.filling.specs.Placing.{Leaves, Bodies, Lacks, Once, Each}
+use Rattle.filling.specs.Placing.{Leaves, Bodies, Lacks, Once, Each, Followed}
 use Rattle.filling.specs.Search.{Hit}
 use Rattle.filling.specs.Filling.{recounted, newHead, withBit15, altered, newBody, filling, filled}
 use Rattle.filling.specs.Accepted.{AllBodies, Accepted}
 use Rattle.filling.proofs.EditLaws.{is-beyond, is-owned, is-passed, which, behind-beyond, behind-owned, behind-passed, behind-nil, at-view, at-next, at-past, at-nil, views-editAt}
-use Rattle.filling.proofs.PlacingLaws.{leaves, placed-editAt, lawful-editAt}
+use Rattle.filling.proofs.PlacingLaws.{leaves, followed-editAt, lawful-editAt}
+use Rattle.filling.proofs.FollowLaws.{followed, placed}
 use Rattle.filling.proofs.FieldLaws.{Among}
 use Rattle.filling.proofs.FillLaws.{AllFine, countOf, kind, text, shapes, layout, control, other, body-text, body-shapes, body-layout, body-control, body-other, takes-filling}
 use Rattle.filling.proofs.SearchLaws.{marksIn}
 use Rattle.filling.proofs.OrderLaws.{AllReady, Done, done-met}
-use Rattle.filling.proofs.KeepLaws.{Fillable, fill-lawful, view-lawful, lawful-view, written, text-there, shapes-there}
+use Rattle.filling.proofs.KeepLaws.{Fillable, fill-keeps, written, text-there, shapes-there}
+
+-- ---- what holds of each header and what follows it holds of each view
+
+module _ (Q : List Rec → Type 0) (P : View → Type 0) (next : (r : Rec) (rs : List Rec) → Q (r ∷ rs) → Q rs)
+    (at : (r : Rec) (rs : List Rec) → Q (r ∷ rs) → r .tag ≡ 66 → P (view r rs)) where
+  each-view : (i : ℕ) (rs : List Rec) (v : View) → Q rs → getElem? (views rs) i ≡ some v → P v
+  unfolding views
+  each-view i [] v a e = absurd (let z : _≡_ {A = ℕ} 0 1 = cc in omega arith)
+  each-view i (r ∷ rs) v a e = elim (eq-or (r .tag) 66) [
+    | inl h ↦ here i h (rw (eq-eqb (r .tag) 66 h) at e) (λ j. each-view j rs v (next r rs a))
+    | inr h ↦ each-view i rs v (next r rs a) (rw (ne-eqb (r .tag) 66 h) at e)
+  ]
+    where
+      here : (i : ℕ) → r .tag ≡ 66 → getElem? (view r rs ∷ views rs) i ≡ some v → ((j : ℕ) → getElem? (views rs) j ≡ some v → P v) → P v
+      here zero h q on = let s : view r rs ≡ v = cc in rw (← s) (at r rs a h)
+      here (suc i) h q on = on i q
 
 -- ---- what holds of each body holds of a view's
 
@@ -46,17 +64,9 @@ module _ (P : List ℕ → Type 0) where
   ]
 
   pub all-view : (i : ℕ) (rs : List Rec) (v : View) → AllBodies P rs → getElem? (views rs) i ≡ some v → P (v .head) × AllBodies P (v .own)
-  unfolding views
-  all-view i [] v a e = absurd (let z : _≡_ {A = ℕ} 0 1 = cc in omega arith)
-  all-view i (r ∷ rs) v a e = elim (eq-or (r .tag) 66) [
-    | inl h ↦ here i h (rw (eq-eqb (r .tag) 66 h) at e) (λ j. all-view j rs v (a .1))
-    | inr h ↦ all-view i rs v (a .1) (rw (ne-eqb (r .tag) 66 h) at e)
-  ]
-    where
-      here : (i : ℕ) → r .tag ≡ 66 → getElem? (view r rs ∷ views rs) i ≡ some v
-          → ((j : ℕ) → getElem? (views rs) j ≡ some v → P (v .head) × AllBodies P (v .own)) → P (v .head) × AllBodies P (v .own)
-      here zero h q on = let s : view r rs ≡ v = cc in rw (← s) (unfold view in (a .0, all-kids (suc (r .level)) rs (a .1)))
-      here (suc i) h q on = on i q
+  unfolding view
+  all-view i rs v a e =
+      each-view (AllBodies P) (λ u. P (u .head) × AllBodies P (u .own)) (λ r l x. x .1) (λ r l x h. (x .0, all-kids (suc (r .level)) l (x .1))) i rs v a e
 
   pub all-child : (t : ℕ) (k : List Rec) (b : List ℕ) → AllBodies P k → child t k ≡ some b → P b
   all-child t [] b a e = unfold child in absurd (let z : _≡_ {A = ℕ} 0 1 = cc in omega arith)
@@ -87,17 +97,8 @@ bodies-fit rs h = bodies rs (all-short limit rs h)
 -- ---- one record of each tag
 
 pub view-once : (i : ℕ) (rs : List Rec) (v : View) → Each rs → getElem? (views rs) i ≡ some v → Once (v .own)
-unfolding views
-view-once i [] v a e = absurd (let z : _≡_ {A = ℕ} 0 1 = cc in omega arith)
-view-once i (r ∷ rs) v a e = elim (eq-or (r .tag) 66) [
-  | inl h ↦ here i h (rw (eq-eqb (r .tag) 66 h) at e) (λ j. view-once j rs v (a .1))
-  | inr h ↦ view-once i rs v (a .1) (rw (ne-eqb (r .tag) 66 h) at e)
-]
-  where
-    here : (i : ℕ) → r .tag ≡ 66 → getElem? (view r rs ∷ views rs) i ≡ some v
-        → ((j : ℕ) → getElem? (views rs) j ≡ some v → Once (v .own)) → Once (v .own)
-    here zero h q on = let s : view r rs ≡ v = cc in rw (← s) (unfold view in (a .0 .paragraph h))
-    here (suc i) h q on = on i q
+unfolding view
+view-once i rs v a e = each-view Each (λ u. Once (u .own)) (λ r l x. x .1) (λ r l x h. x .0 .paragraph h) i rs v a e
 
 lacks-child : (t : ℕ) (k : List Rec) → Lacks t k → child t k ≡ none
 lacks-child t [] l = unfold child in refl
@@ -122,25 +123,48 @@ fine-all n (r ∷ k) o x y z = (
       | inr q ↦ child-other t r k q ∙ e
     ]
 
+-- ---- each paragraph keeps its rules where each view does
+
+views-keep : (rs : List Rec) → ((i : ℕ) (v : View) → getElem? (views rs) i ≡ some v → Keeps v) → AllKeep rs
+unfolding views
+views-keep [] a = tt
+views-keep (r ∷ rs) a = elim (eq-or (r .tag) 66) [
+  | inl h ↦
+      (let b : (i : ℕ) (v : View) → getElem? (view r rs ∷ views rs) i ≡ some v → Keeps v = rw (eq-eqb (r .tag) 66 h) at a in
+      ((λ q. b 0 (view r rs) refl), views-keep rs (λ i v q. b (suc i) v q)))
+  | inr h ↦
+      (let b : (i : ℕ) (v : View) → getElem? (views rs) i ≡ some v → Keeps v = rw (ne-eqb (r .tag) 66 h) at a in
+      ((λ q. absurd (h q)), views-keep rs b))
+]
+
 -- ---- each paragraph of an accepted section that has a field
 
 module _ (rs : List Rec) (a : Accepted rs) where
+  pub follows : Followed rs
+  follows = followed rs (a .section .obeys .placed)
+
+  pub layout-leaves : Leaves rs
+  layout-leaves = leaves rs (follows .each)
+
+  pub keeps : (i : ℕ) (v : View) → getElem? (views rs) i ≡ some v → Keeps v
+  keeps i v e = each-view AllKeep Keeps (λ r l x. x .1) (λ r l x h. x .0 h) i rs v (a .section .obeys .paragraphs) e
+
   pub ready : AllReady rs
   unfolding countsOf
   ready i v f e m =
-      let l = lawful-view v (a .paragraphs i v e) in
+      let k = keeps i v e in
       let t = text-there v f m in
-      let s = shapes-there v l in
-      let w = written v (t .0) (s .0) l (t .1) (s .1) in
+      let s = shapes-there v k in
+      let w = written v (t .0) (s .0) k (t .1) (s .1) in
       let b = all-view Bytes i rs v (a .bytes) e in
-      let n = all-view (λ b. length b ≤ limit) i rs v (all-short limit rs (a .short)) e in
+      let n = all-view (λ b. length b ≤ limit) i rs v (all-short limit rs (a .section .within)) e in
       let c : length (t .0) ≤ limit = all-child (λ b. length b ≤ limit) 67 (v .own) (t .0) (n .1) (t .1) in
       record {
-        long = l .long;
+        long = k .header-long;
         bytes = b .0;
-        small = omega (arith, w .text-long);
-        fine = fine-all (countOf v) (v .own) (view-once i rs v (a .placed .each) e)
-            (λ x q. let z : t .0 ≡ x = (let y = t .1 in cc) in ap length (sym z) ∙ w .text-long)
+        small = omega (arith, w .text-sized .bytes);
+        fine = fine-all (countOf v) (v .own) (view-once i rs v (follows .each) e)
+            (λ x q. let z : t .0 ≡ x = (let y = t .1 in cc) in ap length (sym z) ∙ w .text-sized .bytes)
             (λ x q. let z : s .0 ≡ x = (let y = s .1 in cc) in rw (← z) (w .starts))
             (λ x q. all-child Bytes 68 (v .own) x (b .1) q);
       }
@@ -266,7 +290,7 @@ module _ (id : ℕ) (w : List ℕ) (rs : List Rec) (h : Hit) (a : Accepted rs) (
       let r = ready rs a (h .paragraph) v (h .field) e g in
       let b = all-view Bytes (h .paragraph) rs v (a .bytes) e in
       record {
-        lawful = lawful-view v (a .paragraphs (h .paragraph) v e);
+        keeps = keeps rs a (h .paragraph) v e;
         bytes = b .0;
         small = count-room v (r .small);
         shapes-bytes = λ s z. all-child Bytes 68 (v .own) s (b .1) z;
@@ -276,23 +300,28 @@ module _ (id : ℕ) (w : List ℕ) (rs : List Rec) (h : Hit) (a : Accepted rs) (
         free = marks-are v ∙ ap marksIn (sym q) ∙ sym (m .same-marks) ∙ d .free;
       }
 
-  leaves-here : Leaves rs
-  leaves-here = leaves rs (a .placed .each)
-
   pub accepted-filled : Bytes w → length (encode (filled h w rs)) ≤ limit → Accepted (filled h w rs)
   unfolding filled
   accepted-filled y z =
+      let e = filling (h .field) w in
+      let takes = takes-filling (h .field) w in
+      let levels = lawful-editAt e takes 0 (h .paragraph) rs (follows rs a .each) (a .section .encodes .lawful) (bodies-fit (editAt (h .paragraph) e rs) z) in
       record {
-        short = z;
-        bytes = bytes-editAt (filling (h .field) w) (unfold filling in (bytes-body (h .field) w y)) (λ v x. unfold filling in (bytes-head _ _ _ _ (v .head) x)) (h .paragraph) rs (a .bytes);
-        levels = lawful-editAt (filling (h .field) w) (takes-filling (h .field) w) 0 (h .paragraph) rs (a .placed .each) (a .levels) (bodies-fit (editAt (h .paragraph) (filling (h .field) w) rs) z);
-        placed = placed-editAt (filling (h .field) w) (takes-filling (h .field) w) (h .paragraph) rs (a .placed);
-        paragraphs = λ i v e. lawful-again i v (modified-view (h .paragraph) i (editView (filling (h .field) w)) (views rs) v
-            (sym (ap (λ (vs : List View). getElem? vs i) (views-editAt (filling (h .field) w) (takes-filling (h .field) w) (h .paragraph) rs leaves-here)) ∙ e));
+        bytes = bytes-editAt e (unfold filling in (bytes-body (h .field) w y)) (λ v x. unfold filling in (bytes-head _ _ _ _ (v .head) x)) (h .paragraph) rs (a .bytes);
+        section = record {
+          within = z;
+          encodes = record { lawful = levels; stream = refl };
+          count = refl;
+          obeys = record {
+            placed = placed (editAt (h .paragraph) e rs) (followed-editAt e takes (h .paragraph) rs (follows rs a)) levels;
+            paragraphs = views-keep (editAt (h .paragraph) e rs) (λ i v q. keeps-again i v (modified-view (h .paragraph) i (editView e) (views rs) v
+                (sym (ap (λ (vs : List View). getElem? vs i) (views-editAt e takes (h .paragraph) rs (layout-leaves rs a))) ∙ q)));
+          };
+        };
       }
     where
-      lawful-again : (i : ℕ) (v : View)
+      keeps-again : (i : ℕ) (v : View)
           → (getElem? (views rs) i ≡ some v) ⊎ ((u : View) × (getElem? (views rs) (h .paragraph) ≡ some u) × (v ≡ editView (filling (h .field) w) u))
-          → paragraphFault v ≡ G.Lawful
-      lawful-again i v (inl e) = a .paragraphs i v e
-      lawful-again i v (inr p) = rw (p .2) (view-lawful _ (fill-lawful (p .0) (h .field) w (fillable-here (p .0) (p .1))))
+          → Keeps v
+      keeps-again i v (inl e) = keeps rs a i v e
+      keeps-again i v (inr p) = rw (p .2) (fill-keeps (p .0) (h .field) w (fillable-here (p .0) (p .1)))

@@ -30,8 +30,7 @@ use Rattle.filling.proofs.FieldLaws.{movedField}
 use Rattle.filling.proofs.FillLaws.{takes-filling, fine-text, countOf, mapped, text-filled}
 use Rattle.filling.proofs.OrderLaws.{Done, done-met, again, again-done, otherField, field-ends}
 use Rattle.filling.proofs.KeepLaws.{text-there}
-use Rattle.filling.proofs.PlacingLaws.{leaves}
-use Rattle.filling.proofs.AcceptedLaws.{ready}
+use Rattle.filling.proofs.AcceptedLaws.{ready, layout-leaves}
 
 -- a body and where it stands in the stream of the records, whose first byte stands at `at`
 pub record Stands (at : ℕ) (rs : List Rec) (b : List ℕ) (p : ℕ) : Type 0 where
@@ -186,7 +185,7 @@ field-text id w rs h a d =
     let m = done-met id w rs h d in
     let r = ready rs a (h .paragraph) (m .v) f (m .at) (m .among) in
     let ends = field-ends (m .v) r f (m .among) (d .plain) in
-    let lv = leaves rs (a .placed .each) in
+    let lv = layout-leaves rs a in
     let k = again id id w w rs h h lv (ready rs a) d d in
     let c = again-done id id w w rs h h lv (ready rs a) d d in
     let t = text-there (m .v) f (m .among) in

@@ -10,7 +10,7 @@ use mathlib.Core.Option.{Option, none, some}
 use mathlib.Core.List.{List, [], _∷_}
 use lib.Dec.{eqb}
 use lib.ListN.{length, getElem?, length-append, length-take, length-drop}
-use borrow.Author.Tests.{ltb-false, eq-eqb, ne-eqb, eqb-true}
+use borrow.Author.Tests.{eq-eqb, ne-eqb, eqb-true}
 use Rattle.records.specs.Records.{Rec, encode, size}
 use Rattle.records.proofs.HeaderLaws.{lead-short, lead-long, lead-bounds}
 use Rattle.records.proofs.ScanLaws.{length-encode}
@@ -23,8 +23,7 @@ use Rattle.text.specs.declared.Standing.{Standing}
 use Rattle.text.specs.declared.Standing.the-variants as St
 use Rattle.text.proofs.Cases.{lt-or, eq-or}
 use Rattle.paragraph.specs.View.{kids, View, view, views, child, controls}
-use Rattle.paragraph.specs.Rules.{bytesIn, ownerOf, codeBefore, codesIn, fieldShort, fieldFault}
-use Rattle.paragraph.specs.declared.finding.Finding.the-variants as G
+use Rattle.paragraph.specs.Rules.{bytesIn, ownerOf, codeBefore, codesIn}
 use Rattle.paragraph.proofs.BodyLaws.{kids-owned, kids-passed, controls-here, controls-other}
 use Rattle.filling.specs.Replacing.{replaced}
 use Rattle.filling.specs.Shapes.{shapesIn, packed, shapesAfter}
@@ -33,6 +32,7 @@ use Rattle.filling.specs.Editing.{Change, Edit, withBody, put, countCont
 use Rattle.filling.specs.Placing.{Lacks, Once}
 use Rattle.filling.specs.Search.{Hit}
 use Rattle.filling.specs.Filling.{unitCount, altered, newBody, filling, filled}
+use Rattle.acceptance.specs.Keeps.{Fields, Keeps}
 use Rattle.filling.specs.Accepted.{Accepted}
 use Rattle.filling.proofs.PackingLaws.{length-packed}
 use Rattle.filling.proofs.FieldLaws.{Among, ordinary, field, other, seen, fields-ordinary, fields-field, fields-other, field-extended, field-ordinal}
@@ -40,8 +40,8 @@ use Rattle.filling.proofs.EditLaws.{is-beyond, is-owned, is-passed, whi
 use Rattle.filling.proofs.FillLaws.{kind, text, shapes, layout, control, other, body-text, body-shapes, body-layout, body-control, body-other}
 use Rattle.filling.proofs.SearchLaws.{count-next, count-same}
 use Rattle.filling.proofs.OrderLaws.{Done, done-met, field-ends}
-use Rattle.filling.proofs.KeepLaws.{guard-lawful, or-false, Lawful, lawful-view, length-altered, length-head, after-fewer, length-shapes}
-use Rattle.filling.proofs.AcceptedLaws.{view-once, ready}
+use Rattle.filling.proofs.KeepLaws.{length-altered, length-head, after-fewer, length-shapes}
+use Rattle.filling.proofs.AcceptedLaws.{view-once, ready, follows, keeps}
 
 -- ---- the control header of a field is long enough for its properties
 
@@ -98,30 +98,22 @@ owns n p zero (u ∷ us) f m =
     owns-step n (record { at = p; what = what u }) (walk (p + 1) (width (what u) - 1) us) f (field-extended u)
     (λ j q. owns j (p + 1) (width (what u) - 1) us f q) m
 
-long-enough : (b : List ℕ) → fieldShort b ≡ false → 15 ≤ length b
-unfolding fieldShort
-long-enough b e = ltb-false (length b) 15 (or-false _ _ e .0)
-
 -- the header that a code 3 owns
-codes-long : (nth i : ℕ) (cs : List ℕ) (bs : List (List ℕ)) (b : List ℕ) → fieldFault nth cs bs ≡ G.Lawful → getElem? cs i ≡ some 3
-    → getElem? bs i ≡ some b → 15 ≤ length b
-unfolding fieldFault
-codes-long nth i [] bs b e c d = absurd (let z : _≡_ {A = ℕ} 0 1 = cc in omega arith)
-codes-long nth i (x ∷ cs) [] b e c d = absurd (let z : _≡_ {A = ℕ} 0 1 = cc in omega arith)
-codes-long nth zero (x ∷ cs) (y ∷ bs) b e c d =
-    let k = guard-lawful _ _ _ _ e in
+codes-long : (i : ℕ) (cs : List ℕ) (bs : List (List ℕ)) (b : List ℕ) → Fields cs bs → getElem? cs i ≡ some 3 → getElem? bs i ≡ some b → 15 ≤ length b
+codes-long i [] bs b k c d = absurd (let z : _≡_ {A = ℕ} 0 1 = cc in omega arith)
+codes-long i (x ∷ cs) [] b k c d = absurd (let z : _≡_ {A = ℕ} 0 1 = cc in omega arith)
+codes-long zero (x ∷ cs) (y ∷ bs) b k c d =
     let three : x ≡ 3 = cc in
     let same : y ≡ b = cc in
-    let s : fieldShort y ≡ false = rw (eq-eqb x 3 three) at (k .0) in
-    rw (← same) (long-enough y s)
-codes-long nth (suc i) (x ∷ cs) (y ∷ bs) b e c d = let k = guard-lawful _ _ _ _ e in codes-long (nth + 1) i cs bs b (k .1) c d
+    rw (← same) (k .0 three .fixed)
+codes-long (suc i) (x ∷ cs) (y ∷ bs) b k c d = codes-long i cs bs b (k .1) c d
 
-field-long : (v : View) (f : Field) → Lawful v → Among f (fields v) → (b : List ℕ) → getElem? (controls (v .own)) (f .ordinal) ≡ some b → 15 ≤ length b
+field-long : (v : View) (f : Field) → Keeps v → Among f (fields v) → (b : List ℕ) → getElem? (controls (v .own)) (f .ordinal) ≡ some b → 15 ≤ length b
 unfolding fields tokens
-field-long v f l m b e =
+field-long v f k m b e =
     let o = owns 0 0 0 (units (bytesIn (child 67 (v .own)))) f m in
     let q : f .ordinal ≡ o .nth = omega (arith, o .ordinal) in
-    codes-long 0 (o .nth) (codesIn (walk 0 0 (units (bytesIn (child 67 (v .own)))))) (controls (v .own)) b (l .fields) (o .code)
+    codes-long (o .nth) (codesIn (walk 0 0 (units (bytesIn (child 67 (v .own)))))) (controls (v .own)) b (k .fields-long) (o .code)
     (ap (getElem? (controls (v .own))) (sym q) ∙ e)
 
 -- ---- a record with another body
@@ -293,12 +285,12 @@ module _ (id : ℕ) (w : List ℕ) (rs : List Rec) (h : Hit) (a : Accepted rs) (
       let m = done-met id w rs h d in
       let v = m .v in
       let f = h .field in
-      let l = lawful-view v (a .paragraphs (h .paragraph) v (m .at)) in
+      let k = keeps rs a (h .paragraph) v (m .at) in
       let ends = field-ends v (ready rs a (h .paragraph) v f (m .at) (m .among)) f (m .among) (d .plain) in
       let g : Grow (filling f w .child) (length w + 4) 0 (v .own) = unfold filling in (grow-children f w (ends .0) 0 (v .own)
-      (λ i b o q. (let e : f .ordinal ≡ i = omega arith in let n = field-long v f l (m .among) b (ap (getElem? (controls (v .own))) e ∙ q) in omega arith))) in
+      (λ i b o q. (let e : f .ordinal ≡ i = omega arith in let n = field-long v f k (m .among) b (ap (getElem? (controls (v .own))) e ∙ q) in omega arith))) in
       omega (
         arith,
-        length-editAt (filling f w) (length w + 4) (h .paragraph) rs v (m .at) (omega (arith, length-filling f w v (l .long))) g,
-        growths-once (length w + 4) (v .own) (view-once (h .paragraph) rs v (a .placed .each) (m .at)),
+        length-editAt (filling f w) (length w + 4) (h .paragraph) rs v (m .at) (omega (arith, length-filling f w v (k .header-long))) g,
+        growths-once (length w + 4) (v .own) (view-once (h .paragraph) rs v (follows rs a .each) (m .at)),
       )

@@ -10,7 +10,7 @@ use Rattle.records.specs.Records.{Rec, Obeys, Lawful}
 use Rattle.text.proofs.Cases.{eq-or}
 use Rattle.paragraph.specs.View.{kids, view}
 use Rattle.filling.specs.Editing.{Change, Edit, withBody, put, countControl, changed, editBehind, editAt, TakesLayout}
-use Rattle.filling.specs.Placing.{Stops, Leaves, Bodies, Lacks, Once, Rule, Each, Placed}
+use Rattle.filling.specs.Placing.{Stops, Leaves, Bodies, Lacks, Once, Rule, Each, Followed}
 use Rattle.filling.proofs.EditLaws.{is-beyond, is-owned, is-passed, which, behind-beyond, behind-owned, behind-passed, behind-nil, kids-same, kids-below, kids-editAt, at-next, at-past, at-nil, at-view}
 
 pub leaves : (rs : List Rec) → Each rs → Leaves rs
@@ -154,8 +154,8 @@ module _ (e : Edit) (q : TakesLayout (e .child)) where
     | inr t ↦ rw (at-past e r rs (suc i) t) (rule-editAt (suc i) r rs (u .0), each-editAt (suc i) rs (u .1))
   ]
 
-  pub placed-editAt : (i : ℕ) (rs : List Rec) → Placed rs → Placed (editAt i e rs)
-  placed-editAt i rs p = record { roots = rw (kids-editAt 0 i e rs) (p .roots); each = each-editAt i rs (p .each) }
+  pub followed-editAt : (i : ℕ) (rs : List Rec) → Followed rs → Followed (editAt i e rs)
+  followed-editAt i rs p = record { roots = rw (kids-editAt 0 i e rs) (p .roots); each = each-editAt i rs (p .each) }
 
   pub lawful-editAt : (m i : ℕ) (rs : List Rec) → Each rs → Lawful m rs → Bodies (editAt i e rs) → Lawful m (editAt i e rs)
   unfolding withBody

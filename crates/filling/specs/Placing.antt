@@ -1,4 +1,5 @@
--- Where records may stand (numbers 6 and 9), each as a rule of one record and what follows it.
+-- Rule 9 by what follows a record, and how long bodies may be, as an edit's proofs ask it. What is accepted is said in `acceptance` alone
+-- (AllPlaced, by what stands before a record); that Followed says the same is `followed` and `placed` in proofs/FollowLaws.antt.
 use Prim.Native.Nat.{ℕ, suc, _≤_, _<_}
 use mathlib.Core.Path.{_≡_}
 use mathlib.Core.List.{List, [], _∷_}
@@ -36,7 +37,7 @@ abbrev pub Free : List Rec → Type 0
 Free [] = Unit {0}
 Free (r ∷ k) = (70 < r .tag) × Free k
 
--- rule 9 of one record and what follows it: a 67 to 70 has no children, a 66 has at most one of each, and no other record has one
+-- of one record and what follows it: a 67 to 70 has no children, a 66 has at most one of each, and no other record has one
 pub record Rule (r : Rec) (rs : List Rec) : Type 0 where
   pub leaf : 67 ≤ r .tag → r .tag ≤ 70 → Stops (r .level) rs
   pub paragraph : r .tag ≡ 66 → Once (kids (suc (r .level)) rs)
@@ -46,7 +47,7 @@ abbrev pub Each : List Rec → Type 0
 Each [] = Unit {0}
 Each (r ∷ rs) = Rule r rs × Each rs
 
--- rule 9 of a section, whose records at level 0 have no parent
-pub record Placed (rs : List Rec) : Type 0 where
+-- of a section, whose records at level 0 have no parent
+pub record Followed (rs : List Rec) : Type 0 where
   pub roots : Free (kids 0 rs)
   pub each : Each rs

@@ -156,7 +156,7 @@ module _ (count : ℕ) (text : Option (List ℕ)) (shapes marks : List ℕ) (bs 
 -- ---- 10 to 15, by the records behind the header
 
 module _ (s : List ℕ) (bytes : Bytes s) (from n : ℕ) (p : Parts) (is : p ≡ partsIn n from (recordsIn (drop from s))) where
-  abbrev own : List Rec
+  abbrev pub own : List Rec
   own = kids n (recordsIn (drop from s))
 
   lengths-are : lengthsFound p ≡ lengthsOf own
@@ -176,6 +176,10 @@ module _ (s : List ℕ) (bytes : Bytes s) (from n : ℕ) (p : Parts) (is : p ≡
   marks-are : bodyFound s (p .marks) ≡ child 70 own
   unfolding partsIn
   marks-are = ap (λ (q : Parts). bodyFound s (q .marks)) is ∙ child-found s bytes n 70 from
+
+  pub controls-are : p .controls ≡ length (controls own)
+  unfolding partsIn
+  controls-are = ap (λ (q : Parts). q .controls) is
 
   module _ (c : Counts) (b : Bool) (a : b ≡ absent c (lengthsFound p)) where
     there : b ≡ absent c (lengthsOf own)

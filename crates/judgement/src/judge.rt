@@ -9,14 +9,15 @@ use numbers::number32;
 use paragraph::Counts;
 use paragraph::Finding;
 use paragraph::Found;
+use paragraph::Owned;
 use paragraph::Parts;
-use paragraph::Passed;
 use paragraph::Which;
+use paragraph::body;
 use paragraph::bytes;
-use paragraph::count_controls;
+use paragraph::field_short;
 use paragraph::find;
 use paragraph::find_parts;
-use paragraph::owned;
+use paragraph::owned_header;
 use records::Fault;
 use records::Front;
 use records::Kind;
@@ -33,6 +34,9 @@ ghost use Rattle.text.specs.Walk.{tokens, faultAt, extendedCount};
 ghost use Rattle.paragraph.specs.View.{kids, controls};
 ghost use Rattle.paragraph.specs.Stream.{recordsIn};
 ghost use Rattle.paragraph.specs.Rules as rules;
+ghost use Rattle.paragraph.specs.declared.finding.Which.the-variants as W;
+ghost use Rattle.paragraph.specs.declared.finding.Finding.the-variants as G;
+ghost use Rattle.records.specs.declared.fault.Fault.the-variants as F;
 ghost use Rattle.paragraph.specs.Places.{bodyFound, textJudged, placeFound, childPlace, placeOf};
 
 // The numbers in a paragraph header's body, which is long enough.
@@ -52,7 +56,21 @@ fn counts(head: &[u8]) -> Counts
     }
 }
 
-// 15: the text's extended controls and the control headers side by side. The text is sound.
+// 15 names the nth control header.
+fn header_short(nth: usize) -> Finding
+    ensures { λ r. ⌜ r ≡ G.Breach F.FieldHeaderShort (W.Child 71 nth) ⌝ }
+{
+    Finding::Breach {
+        fault: Fault::FieldHeaderShort,
+        which: Which::Child {
+            tag: Kind::CONTROL_HEADER,
+            nth,
+        },
+    }
+}
+
+// 15: the text's extended controls and the control headers side by side. The text is sound. Of the headers behind `at` the first
+// `skipped` belong to controls that are no fields.
 fn field_fault(s: &[u8], from: usize, n: u32, text: &[u8]) -> Finding
     requires { ⌜ faultAt (units (now text)) 0 ≡ none ⌝ }
     ensures { λ r. ⌜ r ≡ rules.fieldFault 0 (rules.codesIn (tokens (units (now (text .entry))))) (controls (kids n (recordsIn (drop from (now (s .entry)))))) ⌝ }
@@ -60,26 +78,28 @@ fn field_fault(s: &[u8], from: usize, n: u32, text: &[u8]) -> Finding
     let mut cursor = Cursor::start();
     let mut at = from;
     let mut nth: usize = 0;
+    let mut skipped: usize = 0;
     loop {
-        match cursor.step(text) {
+        let control = cursor.past_ordinary(text);
+        match control.step(text) {
             Step::Stands { at: _, what, next } => {
                 cursor = next;
-                match owned(s, at, n, what) {
-                    Passed::Nobody => {}
-                    Passed::Behind(end) => {
-                        at = end;
+                match owned_header(s, at, n, skipped, what) {
+                    Owned::Nobody => {}
+                    Owned::Other => {
+                        skipped = skipped + 1;
                         nth = nth + 1;
                     }
-                    Passed::Short => {
-                        return Finding::Breach {
-                            fault: Fault::FieldHeaderShort,
-                            which: Which::Child {
-                                tag: Kind::CONTROL_HEADER,
-                                nth,
-                            },
-                        };
+                    Owned::Header(p) => {
+                        let end = p.at + p.lead + p.length;
+                        if field_short(body(s, p)) {
+                            return header_short(nth);
+                        }
+                        at = end;
+                        skipped = 0;
+                        nth = nth + 1;
                     }
-                    Passed::Lacking => {
+                    Owned::Lacking => {
                         return Finding::Lawful;
                     }
                 }
@@ -94,13 +114,20 @@ fn field_fault(s: &[u8], from: usize, n: u32, text: &[u8]) -> Finding
     }
 }
 
-// 14, then 15. The text is sound and has so many extended controls.
-fn control_fault(s: &[u8], from: usize, n: u32, text: &[u8], extended: usize) -> Finding
+// 14, then 15. The text is sound and has so many extended controls, the paragraph so many control headers.
+fn control_fault(
+    s: &[u8],
+    from: usize,
+    n: u32,
+    headers: usize,
+    text: &[u8],
+    extended: usize,
+) -> Finding
     requires { ⌜ faultAt (units (now text)) 0 ≡ none ⌝ }
     requires { ⌜ extended ≡ extendedCount (units (now text)) ⌝ }
+    requires { ⌜ headers ≡ length (controls (kids n (recordsIn (drop from (now s))))) ⌝ }
     ensures { λ r. ⌜ r ≡ rules.controlFault (units (now (text .entry))) (controls (kids n (recordsIn (drop from (now (s .entry)))))) ⌝ }
 {
-    let headers = count_controls(s, from, n);
     if headers != extended {
         return of_header(Fault::ControlsUnmatched);
     }
@@ -122,6 +149,7 @@ fn judge_text(f: Found, text: &[u8]) -> Judged
 
 // 12 to 15.
 fn body_fault(s: &[u8], from: usize, n: u32, count: u32, p: Parts) -> Finding
+    requires { ⌜ p .controls ≡ length (controls (kids n (recordsIn (drop from (now s))))) ⌝ }
     ensures { λ r. ⌜ r ≡ rules.bodyFault count (bodyFound (now (s .entry)) (p .text)) (rules.bytesIn (bodyFound (now (s .entry)) (p .shapes))) (rules.bytesIn (bodyFound (now (s .entry)) (p .marks))) (controls (kids n (recordsIn (drop from (now (s .entry)))))) ⌝ }
 {
     let text = p.text;
@@ -133,7 +161,7 @@ fn body_fault(s: &[u8], from: usize, n: u32, count: u32, p: Parts) -> Finding
         Judged::Sound(extended) => {
             match entry_fault(count, bytes(s, shapes), bytes(s, marks)) {
                 Finding::Breach { fault, which } => Finding::Breach { fault, which },
-                Finding::Lawful => control_fault(s, from, n, units, extended),
+                Finding::Lawful => control_fault(s, from, n, p.controls, units, extended),
             }
         }
     }

@@ -9,8 +9,8 @@ use mathlib.Core.Path.{_≡_, refl, sym, ap, ap₂, _∙_}
 use mathlib.Core.List.{List, [], _∷_, _++_}
 use mathlib.Core.Bool.{true, false, cond}
 use lib.Arith.{digits-mod, digits-div}
-use lib.ListN.{length, getD, take, drop, set, length-drop, List·getD-eq-default}
-use lib.Seq.{sets, sets-eq, getD-drop, drop-drop, take-all, take-length}
+use lib.ListN.{length, getD, take, drop, set, length-drop, drop-of-length-le, List·getD-eq-default}
+use lib.Seq.{sets, sets-eq, getD-drop, drop-drop, take-all, take-nil, take-length}
 use borrow.Author.Tests.{le-leb, lt-leb}
 use Rattle.numbers.specs.Little.{little, bytesOf, span, Bytes, laid}
 
@@ -109,3 +109,17 @@ part-rest s a = take-all (length s - a) (drop a s) (omega (arith, length-drop a 
 -- what a slice of bytes holds
 pub slice-bytes : (s : List ℕ) → ((i : ℕ) → Fits w8 (getD s i 0)) → Bytes s
 slice-bytes s fits i = let h = fits i in omega arith
+
+-- ---- a part that may reach past the end
+
+module _ (s : List ℕ) (start n : ℕ) where
+  pub clip-none : length s ≤ start → [] ≡ take n (drop start s)
+  clip-none h = rw (drop-of-length-le s h) (sym (take-nil n))
+
+  pub clip-rest : length s - start ≤ n → take (length s - start) (drop start s) ≡ take n (drop start s)
+  clip-rest h =
+      let l = length-drop start s in
+      take-all (length s - start) (drop start s) (omega arith) ∙ sym (take-all n (drop start s) (omega arith))
+
+  pub clip-whole : take (start + n - start) (drop start s) ≡ take n (drop start s)
+  clip-whole = let e : start + n - start ≡ n = omega arith in rw e

@@ -1,7 +1,7 @@
-// Numbers of 16 and 32 bits at the front of a slice, the lowest byte first.
+// Numbers of 16 and 32 bits at the front of a slice, the lowest byte first; and parts of a slice.
 ghost use mathlib.Core.Path.{_≡_};
 ghost use Prim.Native.Nat.{_<_};
-ghost use lib.ListN.{getD};
+ghost use lib.ListN.{getD, take, drop};
 ghost use Rattle.numbers.specs.Little.{little, bytesOf, laid};
 
 fn wide(x: u8) -> u32
@@ -66,4 +66,19 @@ pub fn put_all(out: &mut [u8], s: &[u8])
     if s.len() <= out.len() {
         bytes::copy(s, out);
     }
+}
+
+// Of the bytes from `from` on the first n, as far as there are any.
+pub fn part<'a>(s: &'a [u8], from: usize, n: usize) -> &'a [u8]
+    ensures { λ r. ⌜ now r ≡ take n (drop from (now (s .entry))) ⌝ }
+{
+    if s.len() < from {
+        return &s[0..0];
+    }
+    let left = s.len() - from;
+    if left < n {
+        return &s[from..];
+    }
+    let end = from + n;
+    &s[from..end]
 }

@@ -1,5 +1,4 @@
 pub mod RoomLaws
-pub mod PlaceLaws
 pub mod CheckLaws
 pub mod Orders
 pub mod Pairs

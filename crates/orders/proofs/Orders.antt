@@ -21,9 +21,8 @@ use Rattle.filling.specs.Filling.{fillable, filled, sheet, fits, fillAnswer, fi
 use Rattle.filling.specs.Accepted.{Accepted}
 use Rattle.filling.specs.Placing.{Leaves}
 use Rattle.filling.proofs.AnswerLaws.{fits-not, fits-room, fits-all}
-use Rattle.filling.proofs.PlacingLaws.{leaves}
 use Rattle.filling.proofs.OrderLaws.{done, fillable-done, done-before, both-orders}
-use Rattle.filling.proofs.AcceptedLaws.{ready, accepted-filled}
+use Rattle.filling.proofs.AcceptedLaws.{ready, layout-leaves, accepted-filled}
 use Rattle.orders.specs.Calls.{afterSection, fillOf, sheetOf, lacksRoom}
 use Rattle.orders.proofs.RoomLaws.{room-accepted}
 use Rattle.orders.proofs.CheckLaws.{Checked, checked, read-back, checks}
@@ -105,7 +104,7 @@ section-of s id w room n bs e = go (checkAnswer s) refl e
 
 module _ (rs : List Rec) (a : Accepted rs) where
   leaves-of : Leaves rs
-  leaves-of = leaves rs (a .placed .each)
+  leaves-of = layout-leaves rs a
 
   -- the records after an accepted fill are again those of an accepted section
   pub accepted-after : (id : ℕ) (w : List ℕ) (room n : ℕ) → Bytes w → (f : Filled id w rs room n) → Accepted (filled (f .hit) w rs)

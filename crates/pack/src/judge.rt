@@ -132,12 +132,6 @@ fn judge_rows(
     close(total, room)
 }
 
-fn lesser(a: usize, b: usize) -> usize
-    ensures { λ r. ⌜ r ≡ min a b ⌝ }
-{
-    if a < b { a } else { b }
-}
-
 // What pack answers, before a byte is written: 27, then the rows.
 pub fn judge(
     count: usize,
@@ -150,11 +144,7 @@ pub fn judge(
 ) -> Packed
     ensures { λ r. ⌜ r ≡ packAnswer count (now (tags .entry)) (now (levels .entry)) (now (places .entry)) (now (lengths .entry)) (now (bytes .entry)) room ⌝ }
 {
-    let entries = lesser(
-        lesser(tags.len(), levels.len()),
-        lesser(places.len(), lengths.len()),
-    );
-    if entries < count {
+    if records::room(tags, levels, places, lengths) < count {
         return Packed::Refused {
             fault: Fault::ListTooShort,
             index: Index(0),

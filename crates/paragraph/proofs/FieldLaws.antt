@@ -1,59 +1,45 @@
 -- Extended controls and the control headers that they own. Assumes nothing.
 use Prim.Native.Nat.{ℕ, zero, suc, _+_, _-_, _*_, _≤_, _<_}
 use native.Mathlib.Omega.{arith}
-use mathlib.Core.Path.{_≡_, refl, sym, ap, ap₂, _∙_, subst}
-use mathlib.Core.Bool.{Bool, true, false, cond, _&&_, and-false}
+use mathlib.Core.Path.{_≡_, refl, sym, ap, _∙_, subst}
+use mathlib.Core.Bool.{Bool, true, false, cond}
 use mathlib.Core.Option.{Option, none, some}
-use mathlib.Core.List.{List, [], _∷_}
+use mathlib.Core.List.{List, [], _∷_, _++_}
 use lib.Dec.{ltb, eqb}
 use lib.ListN.{length, take, drop}
-use borrow.Author.Tests.{lt-ltb, le-ltb, eq-eqb, ne-eqb}
+use lib.Seq.{drop-drop}
+use borrow.Author.Tests.{lt-ltb, le-ltb, eq-eqb, ne-eqb, eqb-true}
 use Rattle.numbers.specs.Little.{little, Bytes}
+use Rattle.records.specs.Records.{Rec}
 use Rattle.records.specs.declared.fault.Fault.the-variants as F
-use Rattle.text.specs.Walk.{Token, tokens, tokensAt, faultAt}
+use Rattle.text.specs.Walk.{Token, tokens, tokensAt, faultAt, run}
+use Rattle.text.specs.Answers.{cursor}
+use Rattle.text.specs.declared.Cursor.{Cursor}
 use Rattle.text.proofs.WalkLaws.{Onward, Ended}
+use Rattle.text.proofs.PartLaws.{singles}
+use Rattle.text.proofs.RunLaws.{run-tokens, run-fault}
 use Rattle.text.specs.declared.Class.the-variants.{Extended}
 use Rattle.text.specs.declared.Control.{Control}
 use Rattle.text.specs.declared.Standing.{Standing}
 use Rattle.text.specs.declared.Standing.the-variants as T
 use Rattle.paragraph.specs.View.{kids, controls}
 use Rattle.paragraph.specs.Stream.{recordsIn}
-use Rattle.paragraph.specs.Rules.{guard, bytesIn, ownerOf, codeBefore, codesIn, fieldShort, fieldFault}
-use Rattle.paragraph.specs.Places.{foundIn, bodyFound, passOf, ownedBy}
+use Rattle.paragraph.specs.Rules.{guard, ownerOf, codeBefore, codesIn, fieldShort, fieldFault}
+use Rattle.paragraph.specs.Places.{foundIn, bodyOf, headerFound, ownedBy}
 use Rattle.paragraph.specs.declared.children.Part.{Part}
 use Rattle.paragraph.specs.declared.children.Found.{Found}
 use Rattle.paragraph.specs.declared.children.Found.the-variants as P
 use Rattle.paragraph.specs.declared.fields.Owner.{Owner}
 use Rattle.paragraph.specs.declared.fields.Owner.the-variants as O
-use Rattle.paragraph.specs.declared.fields.Passed.{Passed}
-use Rattle.paragraph.specs.declared.fields.Passed.the-variants as K
+use Rattle.paragraph.specs.declared.fields.Owned.{Owned}
+use Rattle.paragraph.specs.declared.fields.Owned.the-variants as K
 use Rattle.paragraph.specs.declared.finding.Which.the-variants as W
 use Rattle.paragraph.specs.declared.finding.Finding.{Finding}
 use Rattle.paragraph.specs.declared.finding.Finding.the-variants as G
-use Rattle.paragraph.proofs.BodyLaws.{Met, Missed, met-at, met-none}
+use Rattle.paragraph.proofs.OwningLaws.{behind, headers, Owning, owning}
 
 pub owner-extended : (k : Control) → k .class ≡ Extended → O.Owner (k .code) ≡ ownerOf (T.Control k)
 owner-extended k e = rw e
-
--- ---- counting the control headers
-
-pub record Counting (s : List ℕ) (from n at count : ℕ) : Type 0 where
-  pub small : count ≤ at
-  pub rest : length (controls (kids n (recordsIn (drop from s)))) ≡ count + length (controls (kids n (recordsIn (drop at s))))
-
-pub counting-start : (s : List ℕ) (from n : ℕ) → Counting s from n from 0
-counting-start s from n = record { small = omega arith; rest = omega arith }
-
-module _ {s : List ℕ} {from n at count : ℕ} (k : Counting s from n at count) where
-  pub counting-next : (p : Part) → Met s n 71 at p → Counting s from n (p .at + p .lead + p .length) (count + 1)
-  counting-next p d =
-      let one : length (controls (kids n (recordsIn (drop at s)))) ≡ suc (length (controls (kids n (recordsIn (drop (p .at + p .lead + p .length) s))))) = ap length (d .controls-are refl) in
-      record { small = omega (arith, k .small, d .from, d .least); rest = omega (arith, k .rest) }
-
-  pub counting-end : Missed s n 71 at → count ≡ length (controls (kids n (recordsIn (drop from s))))
-  counting-end d =
-      let none : length (controls (kids n (recordsIn (drop at s)))) ≡ 0 = ap length (d .controls-are refl) in
-      omega (arith, k .rest)
 
 -- ---- a field's control header
 
@@ -65,132 +51,142 @@ pub short-by : (b : List ℕ) (k : ℕ) → 15 ≤ length b → k ≡ little 2 (
 unfolding fieldShort
 short-by b k h e = rw (le-ltb (length b) 15 h, ← e)
 
-module _ (s : List ℕ) (code : ℕ) (f : Found) (p : Part) (q : f ≡ P.At p) where
-  abbrev body : List ℕ
-  body = take (p .length) (drop (p .at + p .lead) s)
+-- ---- what something in the text owns
 
-  pub pass-short : (x : List ℕ) (b : Bool) → x ≡ body → b ≡ fieldShort x → b ≡ true → code ≡ 3 → K.Short ≡ passOf s code f
-  pass-short x b e g h t =
-      let z : fieldShort body ≡ true = sym (ap fieldShort e) ∙ sym g ∙ h in
-      rw (q, eq-eqb code 3 t, z)
+module _ (n k at : ℕ) (rs : List Rec) (o : Owner) (code : ℕ) (e : o ≡ O.Owner code) where
+  pub owned-other : (code ≡ 3 → ⊥) → K.Other ≡ ownedBy n k at rs o
+  owned-other h = rw (e, ne-eqb code 3 h)
 
-  pub pass-whole : (x : List ℕ) (b : Bool) → x ≡ body → b ≡ fieldShort x → b ≡ false → K.Behind (p .at + p .lead + p .length) ≡ passOf s code f
-  pass-whole x b e g h =
-      let z : fieldShort body ≡ false = sym (ap fieldShort e) ∙ sym g ∙ h in
-      rw (q, z, and-false (eqb code 3))
+  pub owned-found : code ≡ 3 → (f : Found) → f ≡ foundIn n 71 k at rs → headerFound f ≡ ownedBy n k at rs o
+  owned-found h f q = rw (e, eq-eqb code 3 h, q)
 
-  pub pass-other : (code ≡ 3 → ⊥) → K.Behind (p .at + p .lead + p .length) ≡ passOf s code f
-  pass-other t = rw (q, ne-eqb code 3 t)
+-- what an outcome says of its owner and of the control headers that are left, behind k of them
+abbrev pub Outcome : List ℕ → ℕ → ℕ → ℕ → Owner → Owned → Type 0
+Outcome s n k at o K.Nobody = o ≡ O.Nobody
+Outcome s n k at o K.Other = (code : ℕ) × (o ≡ O.Owner code) × (eqb code 3 ≡ false)
+Outcome s n k at o K.Lacking = (o ≡ O.Owner 3) × (drop k (headers s n at) ≡ [])
+Outcome s n k at o (K.Header p) = (o ≡ O.Owner 3) × Owning s n k at p
+
+module _ (s : List ℕ) (bs : Bytes s) (n k at : ℕ) where
+  outcome-found : (f : Found) → f ≡ foundIn n 71 k at (recordsIn (drop at s)) → Outcome s n k at (O.Owner 3) (headerFound f)
+  outcome-found (P.At p) e = (refl, owning s bs n k at (P.At p) e)
+  outcome-found P.Nothing e = (refl, owning s bs n k at P.Nothing e)
+
+  outcome-code : (code : ℕ) (b : Bool) → eqb code 3 ≡ b
+      → Outcome s n k at (O.Owner code) (cond b (headerFound (foundIn n 71 k at (recordsIn (drop at s)))) K.Other)
+  outcome-code code true e = rw (eqb-true code 3 e) (outcome-found (foundIn n 71 k at (recordsIn (drop at s))) refl)
+  outcome-code code false e = (code, refl, e)
+
+  outcome-of : (o : Owner) → Outcome s n k at o (ownedBy n k at (recordsIn (drop at s)) o)
+  outcome-of O.Nobody = refl
+  outcome-of (O.Owner code) = outcome-code code (eqb code 3) refl
+
+  pub outcome : (o : Owner) (x y : Owned) → x ≡ ownedBy n k at (recordsIn (drop at s)) o → x ≡ y → Outcome s n k at o y
+  outcome o x y e q = subst (Outcome s n k at o) (sym e ∙ q) (outcome-of o)
 
 -- ---- the text and the control headers side by side
 
--- the control header of a control with a code, and whether it is too short
-pub record Holds (s : List ℕ) (n at : ℕ) (o : Owner) (short : Bool) (end : ℕ) : Type 0 where
-  pub code : ℕ
-  pub part : Part
-  pub owner : o ≡ O.Owner code
-  pub is : Met s n 71 at part
-  pub ends : end ≡ part .at + part .lead + part .length
-  pub test : (eqb code 3 && fieldShort (take (part .length) (drop (part .at + part .lead) s))) ≡ short
-
-pub record Lacks (s : List ℕ) (n at : ℕ) (o : Owner) : Type 0 where
-  pub code : ℕ
-  pub owner : o ≡ O.Owner code
-  pub missed : Missed s n 71 at
-
--- what an outcome says
-abbrev pub Outcome : List ℕ → ℕ → ℕ → Owner → Passed → Type 0
-Outcome s n at o K.Nobody = o ≡ O.Nobody
-Outcome s n at o K.Lacking = Lacks s n at o
-Outcome s n at o K.Short = (end : ℕ) × Holds s n at o true end
-Outcome s n at o (K.Behind end) = Holds s n at o false end
-
-module _ (s : List ℕ) (bs : Bytes s) (n at : ℕ) where
-  outcome-test : (code : ℕ) (p : Part) → Met s n 71 at p → (b : Bool) → (eqb code 3 && fieldShort (take (p .length) (drop (p .at + p .lead) s))) ≡ b
-      → Outcome s n at (O.Owner code) (cond b K.Short (K.Behind (p .at + p .lead + p .length)))
-  outcome-test code p d true e = (p .at + p .lead + p .length, record { code = code; part = p; owner = refl; is = d; ends = refl; test = e })
-  outcome-test code p d false e = record { code = code; part = p; owner = refl; is = d; ends = refl; test = e }
-
-  outcome-found : (code : ℕ) (f : Found) → f ≡ foundIn n 71 0 at (recordsIn (drop at s)) → Outcome s n at (O.Owner code) (passOf s code f)
-  outcome-found code (P.At p) e = outcome-test code p (met-at s bs n 71 at (P.At p) p e refl) _ refl
-  outcome-found code P.Nothing e = record { code = code; owner = refl; missed = met-none s bs n 71 at P.Nothing e refl }
-
-  outcome-of : (o : Owner) → Outcome s n at o (ownedBy s n at o)
-  outcome-of O.Nobody = refl
-  outcome-of (O.Owner code) = outcome-found code (foundIn n 71 0 at (recordsIn (drop at s))) refl
-
-  pub outcome : (o : Owner) (x y : Passed) → x ≡ ownedBy s n at o → x ≡ y → Outcome s n at o y
-  outcome o x y e q = subst (Outcome s n at o) (sym e ∙ q) (outcome-of o)
-
--- the controls from position p on against the control headers from `at` on
-abbrev leftAt : List ℕ → List ℕ → ℕ → ℕ → ℕ → ℕ → Finding
-leftAt s us n p at nth = fieldFault nth (codesIn (tokensAt us p)) (controls (kids n (recordsIn (drop at s))))
+-- the controls from position p on against the control headers from `at` on, behind k of them
+abbrev leftAt : List ℕ → List ℕ → ℕ → ℕ → ℕ → ℕ → ℕ → Finding
+leftAt s us n p k at nth = fieldFault nth (codesIn (tokensAt us p)) (drop k (headers s n at))
 
 abbrev pub wholeAt : List ℕ → List ℕ → ℕ → ℕ → Finding
-wholeAt s us n from = fieldFault 0 (codesIn (tokens us)) (controls (kids n (recordsIn (drop from s))))
+wholeAt s us n from = fieldFault 0 (codesIn (tokens us)) (headers s n from)
 
-pub record Walking (s us : List ℕ) (from n p at nth : ℕ) : Type 0 where
+pub record Walking (s us : List ℕ) (from n p k at nth : ℕ) : Type 0 where
   pub sound : faultAt us p ≡ none
-  pub small : nth ≤ at
-  pub rest : wholeAt s us n from ≡ leftAt s us n p at nth
+  pub few : nth ≤ p
+  pub fewer : k ≤ nth
+  pub rest : wholeAt s us n from ≡ leftAt s us n p k at nth
 
-pub walking-start : (s us : List ℕ) (from n : ℕ) → faultAt us 0 ≡ none → Walking s us from n 0 from 0
+pub walking-start : (s us : List ℕ) (from n : ℕ) → faultAt us 0 ≡ none → Walking s us from n 0 0 from 0
 unfolding tokens
-walking-start s us from n e = record { sound = e; small = omega arith; rest = refl }
+walking-start s us from n e = record { sound = e; few = omega arith; fewer = omega arith; rest = refl }
 
-module _ {s us : List ℕ} {from n p at nth : ℕ} (k : Walking s us from n p at nth) where
+-- ordinary units own nothing
+codes-singles : (p : ℕ) (x : List ℕ) (ts : List Token) → codesIn (singles p x ++ ts) ≡ codesIn ts
+unfolding codesIn singles
+codes-singles p [] ts = refl
+codes-singles p (u ∷ x) ts = codes-singles (p + 1) x ts
+
+pub codes-run : (us : List ℕ) (p : ℕ) → codesIn (tokensAt us p) ≡ codesIn (tokensAt us (p + run (drop p us)))
+codes-run us p = ap codesIn (run-tokens us p) ∙ codes-singles p (take (run (drop p us)) (drop p us)) (tokensAt us (p + run (drop p us)))
+
+none-owned : (nth : ℕ) (cs : List ℕ) → fieldFault nth cs [] ≡ G.Lawful
+unfolding fieldFault
+none-owned nth [] = refl
+none-owned nth (c ∷ cs) = refl
+
+-- 15 of a control that is no field
+other-code : (nth c : ℕ) (cs : List ℕ) (bs : List (List ℕ)) → eqb c 3 ≡ false → fieldFault nth (c ∷ cs) bs ≡ fieldFault (nth + 1) cs (drop 1 bs)
+unfolding fieldFault guard
+other-code nth c cs [] e = sym (none-owned (nth + 1) cs)
+other-code nth c cs (b ∷ bs) e = rw e
+
+module _ {s us : List ℕ} {from n p k at nth : ℕ} (w : Walking s us from n p k at nth) where
+  walking-run : Walking s us from n (p + run (drop p us)) k at nth
+  walking-run =
+      record {
+        sound = sym (run-fault us p) ∙ w .sound;
+        few = omega (arith, w .few);
+        fewer = w .fewer;
+        rest = w .rest ∙ ap (λ (cs : List ℕ). fieldFault nth cs (drop k (headers s n at))) (codes-run us p);
+      }
+
+  pub walking-to : (c : Cursor) → c ≡ cursor (p + run (drop p us)) → Walking s us from n (c .at .0) k at nth
+  walking-to c e = rw e walking-run
+
   module _ {q : ℕ} {what : Standing} (d : Onward us p what q) where
-    codes : codesIn (tokensAt us p) ≡ codeBefore (ownerOf what) (codesIn (tokensAt us q))
+    codes : (o : Owner) → ownerOf what ≡ o → codesIn (tokensAt us p) ≡ codeBefore o (codesIn (tokensAt us q))
     unfolding codesIn
-    codes = ap codesIn (d .tokens)
+    codes o e = ap codesIn (d .tokens) ∙ ap (λ (o : Owner). codeBefore o (codesIn (tokensAt us q))) e
 
-    owned-codes : (code : ℕ) → ownerOf what ≡ O.Owner code → codesIn (tokensAt us p) ≡ code ∷ codesIn (tokensAt us q)
-    owned-codes code e = codes ∙ ap (λ (o : Owner). codeBefore o (codesIn (tokensAt us q))) e
+    -- with what it owns read off
+    onto : (o : Owner) → ownerOf what ≡ o → wholeAt s us n from ≡ fieldFault nth (codeBefore o (codesIn (tokensAt us q))) (drop k (headers s n at))
+    onto o e = w .rest ∙ ap (λ (cs : List ℕ). fieldFault nth cs (drop k (headers s n at))) (codes o e)
 
-    pub walking-nobody : ownerOf what ≡ O.Nobody → Walking s us from n q at nth
+    pub walking-nobody : ownerOf what ≡ O.Nobody → Walking s us from n q k at nth
     walking-nobody e =
+        record { sound = sym (d .fault) ∙ w .sound; few = omega (arith, w .few, d .rises); fewer = w .fewer; rest = onto O.Nobody e }
+
+    pub walking-other : ((code : ℕ) × (ownerOf what ≡ O.Owner code) × (eqb code 3 ≡ false)) → Walking s us from n q (k + 1) at (nth + 1)
+    walking-other e =
         record {
-          sound = sym (d .fault) ∙ k .sound;
-          small = k .small;
+          sound = sym (d .fault) ∙ w .sound;
+          few = omega (arith, w .few, d .rises);
+          fewer = omega (arith, w .fewer);
           rest =
-              k .rest
-              ∙ ap (λ (cs : List ℕ). fieldFault nth cs (controls (kids n (recordsIn (drop at s)))))
-              (codes ∙ ap (λ (o : Owner). codeBefore o (codesIn (tokensAt us q))) e);
+              onto (O.Owner (e .0)) (e .1)
+              ∙ other-code nth (e .0) (codesIn (tokensAt us q)) (drop k (headers s n at)) (e .2)
+              ∙ ap (fieldFault (nth + 1) (codesIn (tokensAt us q))) (drop-drop 1 k (headers s n at));
         }
 
-    -- at a control header
-    at-header : {b : Bool} {end : ℕ} → (h : Holds s n at (ownerOf what) b end)
-        → wholeAt s us n from ≡ guard b (G.Breach F.FieldHeaderShort (W.Child 71 nth)) (leftAt s us n q end (nth + 1))
+    -- at a field's control header
+    module _ (part : Part) (o : (ownerOf what ≡ O.Owner 3) × Owning s n k at part) where
+      at-header : (b : Bool) → fieldShort (bodyOf s part) ≡ b
+          → wholeAt s us n from ≡ guard b (G.Breach F.FieldHeaderShort (W.Child 71 nth)) (leftAt s us n q 0 (behind part) (nth + 1))
+      unfolding fieldFault
+      at-header b e =
+          onto (O.Owner 3) (o .0)
+          ∙ ap (fieldFault nth (3 ∷ codesIn (tokensAt us q))) (o .1 .headers-are)
+          ∙ rw e
+
+      pub walking-header : fieldShort (bodyOf s part) ≡ false → Walking s us from n q 0 (behind part) (nth + 1)
+      unfolding guard
+      walking-header e =
+          record { sound = sym (d .fault) ∙ w .sound; few = omega (arith, w .few, d .rises); fewer = omega arith; rest = at-header false e }
+
+      pub walking-short : fieldShort (bodyOf s part) ≡ true → G.Breach F.FieldHeaderShort (W.Child 71 nth) ≡ wholeAt s us n from
+      unfolding guard
+      walking-short e = sym (at-header true e)
+
+    pub walking-lacking : (ownerOf what ≡ O.Owner 3) × (drop k (headers s n at) ≡ []) → G.Lawful ≡ wholeAt s us n from
     unfolding fieldFault
-    at-header h =
-        k .rest
-        ∙ ap₂ (λ (cs : List ℕ) (bs : List (List ℕ)). fieldFault nth cs bs) (owned-codes (h .code) (h .owner)) (h .is .controls-are refl)
-        ∙ rw (h .test, ← h .ends)
-
-    pub walking-behind : (end : ℕ) → Holds s n at (ownerOf what) false end → Walking s us from n q end (nth + 1)
-    unfolding guard
-    walking-behind end h =
-        record {
-          sound = sym (d .fault) ∙ k .sound;
-          small = omega (arith, k .small, h .is .from, h .is .least, h .ends);
-          rest = at-header h;
-        }
-
-    pub walking-short : (end : ℕ) → Holds s n at (ownerOf what) true end → G.Breach F.FieldHeaderShort (W.Child 71 nth) ≡ wholeAt s us n from
-    unfolding guard
-    walking-short end h = sym (at-header h)
-
-    pub walking-lacking : Lacks s n at (ownerOf what) → G.Lawful ≡ wholeAt s us n from
-    unfolding fieldFault
-    walking-lacking h =
-        sym
-        (k .rest
-        ∙ ap₂ (λ (cs : List ℕ) (bs : List (List ℕ)). fieldFault nth cs bs) (owned-codes (h .code) (h .owner)) (h .missed .controls-are refl))
+    walking-lacking e = sym (onto (O.Owner 3) (e .0) ∙ ap (fieldFault nth (3 ∷ codesIn (tokensAt us q))) (e .1))
 
   pub walking-end : Ended us p → G.Lawful ≡ wholeAt s us n from
   unfolding fieldFault codesIn
-  walking-end e =
-      sym (k .rest ∙ ap (λ (ts : List Token). fieldFault nth (codesIn ts) (controls (kids n (recordsIn (drop at s))))) (e .tokens))
+  walking-end e = sym (w .rest ∙ ap (λ (ts : List Token). fieldFault nth (codesIn ts) (drop k (headers s n at))) (e .tokens))
 
   pub walking-broken : (q : ℕ) → faultAt us p ≡ some q → ⊥
-  walking-broken q e = let z : some q ≡ none = sym e ∙ k .sound in let y : _≡_ {A = ℕ} 0 1 = cc in omega arith
+  walking-broken q e = let z : some q ≡ none = sym e ∙ w .sound in let y : _≡_ {A = ℕ} 0 1 = cc in omega arith

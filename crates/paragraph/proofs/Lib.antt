@@ -3,4 +3,6 @@ pub mod StreamLaws
 pub mod FindLaws
 pub mod EntryLaws
 pub mod BodyLaws
+pub mod OwningLaws
+pub mod PartLaws
 pub mod FieldLaws

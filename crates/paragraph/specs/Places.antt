@@ -1,6 +1,6 @@
 -- Where a paragraph's children stand, and the record that a fault names (document 01, the table's column 'Place').
 use Prim.Native.Nat.{ℕ, zero, suc, _+_, _≤_}
-use mathlib.Core.Bool.{cond, _&&_}
+use mathlib.Core.Bool.{Bool, cond}
 use mathlib.Core.Option.{Option, none, some}
 use mathlib.Core.List.{List, [], _∷_}
 use lib.Dec.{eqb}
@@ -10,17 +10,16 @@ use Rattle.text.specs.Units.{units}
 use Rattle.text.specs.Answers.{judged}
 use Rattle.text.specs.declared.Judged.{Judged}
 use Rattle.text.specs.declared.Judged.the-variants as judgement
-use Rattle.paragraph.specs.View.{side}
+use Rattle.paragraph.specs.View.{side, kids, controls}
 use Rattle.paragraph.specs.declared.view.Side.{Side}
 use Rattle.paragraph.specs.declared.view.Side.the-variants as S
 use Rattle.paragraph.specs.declared.finding.Which.{Which}
 use Rattle.paragraph.specs.declared.finding.Which.the-variants as W
-use Rattle.paragraph.specs.Stream.{recordsIn}
-use Rattle.paragraph.specs.Rules.{Lengths, fieldShort}
+use Rattle.paragraph.specs.Rules.{Lengths}
 use Rattle.paragraph.specs.declared.fields.Owner.{Owner}
 use Rattle.paragraph.specs.declared.fields.Owner.the-variants as O
-use Rattle.paragraph.specs.declared.fields.Passed.{Passed}
-use Rattle.paragraph.specs.declared.fields.Passed.the-variants as K
+use Rattle.paragraph.specs.declared.fields.Owned.{Owned}
+use Rattle.paragraph.specs.declared.fields.Owned.the-variants as K
 use Rattle.paragraph.specs.declared.children.Part.{Part}
 use Rattle.paragraph.specs.declared.children.Parts.{Parts}
 use Rattle.paragraph.specs.declared.children.Found.{Found}
@@ -54,8 +53,11 @@ abbrev pub lengthFound : Found → Option ℕ
 lengthFound (P.At p) = some (p .length)
 lengthFound P.Nothing = none
 
+abbrev pub bodyOf : List ℕ → Part → List ℕ
+bodyOf s p = take (p .length) (drop (p .at + p .lead) s)
+
 abbrev pub bodyFound : List ℕ → Found → Option (List ℕ)
-bodyFound s (P.At p) = some (take (p .length) (drop (p .at + p .lead) s))
+bodyFound s (P.At p) = some (bodyOf s p)
 bodyFound s P.Nothing = none
 
 -- it is within the stream
@@ -63,10 +65,32 @@ abbrev pub Inside : List ℕ → Found → Type 0
 Inside s (P.At p) = p .at + p .lead + p .length ≤ length s
 Inside s P.Nothing = Unit {0}
 
--- the four records that a paragraph has at most one of
+-- the four records that a paragraph has at most one of, and how many control headers it has
 unfoldable pub partsIn : ℕ → ℕ → List Rec → Parts
 partsIn n at rs =
-    record { text = foundIn n 67 0 at rs; shapes = foundIn n 68 0 at rs; layout = foundIn n 69 0 at rs; marks = foundIn n 70 0 at rs }
+    record {
+      text = foundIn n 67 0 at rs;
+      shapes = foundIn n 68 0 at rs;
+      layout = foundIn n 69 0 at rs;
+      marks = foundIn n 70 0 at rs;
+      controls = length (controls (kids n rs));
+    }
+
+-- what was found before, or this record where it is the one sought
+abbrev pub takenAs : Found → Bool → Part → Found
+takenAs (P.At q) is p = P.At q
+takenAs P.Nothing is p = cond is (P.At p) P.Nothing
+
+-- the parts with one more child, by its tag
+unfoldable pub taken : Parts → ℕ → Part → Parts
+taken a tag p =
+    record {
+      text = takenAs (a .text) (eqb tag 67) p;
+      shapes = takenAs (a .shapes) (eqb tag 68) p;
+      layout = takenAs (a .layout) (eqb tag 69) p;
+      marks = takenAs (a .marks) (eqb tag 70) p;
+      controls = a .controls + cond (eqb tag 71) 1 0;
+    }
 
 abbrev pub lengthsFound : Parts → Lengths
 lengthsFound p =
@@ -77,16 +101,15 @@ lengthsFound p =
       marks = lengthFound (p .marks);
     }
 
--- what comes of the control header that was found for a control with a code: 15, or the place behind it
-abbrev pub passOf : List ℕ → ℕ → Found → Passed
-passOf s code P.Nothing = K.Lacking
-passOf s code (P.At p) =
-    cond (eqb code 3 && fieldShort (take (p .length) (drop (p .at + p .lead) s))) K.Short (K.Behind (p .at + p .lead + p .length))
+-- the control header that was found for a field
+abbrev pub headerFound : Found → Owned
+headerFound (P.At p) = K.Header p
+headerFound P.Nothing = K.Lacking
 
--- the same for what owns one, where the control headers from `at` on are left
-abbrev pub ownedBy : List ℕ → ℕ → ℕ → Owner → Passed
-ownedBy s n at O.Nobody = K.Nobody
-ownedBy s n at (O.Owner code) = passOf s code (foundIn n 71 0 at (recordsIn (drop at s)))
+-- the next control header, behind k of them, is what a control owns; only a field's is looked for
+abbrev pub ownedBy : ℕ → ℕ → ℕ → List Rec → Owner → Owned
+ownedBy n k at rs O.Nobody = K.Nobody
+ownedBy n k at rs (O.Owner code) = cond (eqb code 3) (headerFound (foundIn n 71 k at rs)) K.Other
 
 -- what the walk of a text finds: an absent text has no extended controls
 abbrev pub textJudged : Found → List ℕ → Judged

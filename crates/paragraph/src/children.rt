@@ -1,15 +1,17 @@
 // Where a paragraph's children stand in the stream.
 use crate::view::Side;
 use crate::view::stands_to;
+use numbers::part;
 use records::Front;
 use records::Kind;
 use records::first;
 ghost use mathlib.Core.Path.{_≡_};
-ghost use Prim.Native.Nat.{_+_};
-ghost use lib.ListN.{take, drop};
+ghost use mathlib.Core.Bool.{cond};
+ghost use Prim.Native.Nat.{_≤_, _<_};
+ghost use lib.ListN.{drop};
 ghost use Rattle.paragraph.specs.Stream.{recordsIn};
 ghost use Rattle.paragraph.specs.Rules.{bytesIn};
-ghost use Rattle.paragraph.specs.Places.{sought, foundIn, partsIn, bodyFound};
+ghost use Rattle.paragraph.specs.Places.{sought, foundIn, takenAs, taken, partsIn, bodyOf, bodyFound};
 
 // A record: the place of its header, the header's bytes and the body's.
 pub struct Part {
@@ -73,27 +75,94 @@ pub fn find(s: &[u8], from: usize, n: u32, tag: u32, nth: usize) -> Found
     Found::Nothing
 }
 
-// The four records that a paragraph has at most one of.
+// The four records that a paragraph has at most one of, and how many control headers it has.
 pub struct Parts {
     pub text: Found,
     pub shapes: Found,
     pub layout: Found,
     pub marks: Found,
+    pub controls: usize,
 }
 
+// What was found before, or this record where it is the one sought.
+fn take_as(f: Found, is: bool, p: Part) -> Found
+    ensures { λ r. ⌜ r ≡ takenAs f is p ⌝ }
+{
+    match f {
+        Found::At(q) => Found::At(q),
+        Found::Nothing => { if is { Found::At(p) } else { Found::Nothing } }
+    }
+}
+
+fn one_if(is: bool) -> usize
+    ensures { λ r. ⌜ (r ≡ cond is 1 0) × (r ≤ 1) ⌝ }
+{
+    if is { 1 } else { 0 }
+}
+
+// The parts with one more child, by its tag.
+fn take_child(parts: Parts, tag: u32, p: Part) -> Parts
+    requires { ⌜ parts .controls < 18446744073709551615 ⌝ }
+    ensures { λ r. ⌜ r ≡ taken parts tag p ⌝ }
+{
+    let text = parts.text;
+    let shapes = parts.shapes;
+    let layout = parts.layout;
+    let marks = parts.marks;
+    Parts {
+        text: take_as(text, tag == Kind::TEXT, p),
+        shapes: take_as(shapes, tag == Kind::SHAPES, p),
+        layout: take_as(layout, tag == Kind::LAYOUT, p),
+        marks: take_as(marks, tag == Kind::MARKS, p),
+        controls: parts.controls + one_if(tag == Kind::CONTROL_HEADER),
+    }
+}
+
+// All of them in one pass over what stands below the paragraph.
 pub fn find_parts(s: &[u8], from: usize, n: u32) -> Parts
     ensures { λ r. ⌜ r ≡ partsIn n from (recordsIn (drop from (now (s .entry)))) ⌝ }
 {
-    let text = find(s, from, n, Kind::TEXT, 0);
-    let shapes = find(s, from, n, Kind::SHAPES, 0);
-    let layout = find(s, from, n, Kind::LAYOUT, 0);
-    let marks = find(s, from, n, Kind::MARKS, 0);
-    Parts {
-        text,
-        shapes,
-        layout,
-        marks,
+    let mut parts = Parts {
+        text: Found::Nothing,
+        shapes: Found::Nothing,
+        layout: Found::Nothing,
+        marks: Found::Nothing,
+        controls: 0,
+    };
+    let mut at = from;
+    while at < s.len() {
+        match first(&s[at..], 1023) {
+            Front::Record(h) => {
+                let lead = h.lead;
+                let length = h.length;
+                match stands_to(n, h.tag, h.level) {
+                    Side::Beyond => {
+                        return parts;
+                    }
+                    Side::Owned => {
+                        parts = take_child(parts, h.tag, Part { at, lead, length });
+                    }
+                    Side::Passed => {}
+                }
+                at = at + lead + length;
+            }
+            Front::Refused(_) => {
+                return parts;
+            }
+        }
     }
+    parts
+}
+
+// The bytes of a record's body, as far as they are there.
+pub fn body<'a>(s: &'a [u8], p: Part) -> &'a [u8]
+    ensures { λ r. ⌜ now r ≡ bodyOf (now (s .entry)) p ⌝ }
+{
+    let at = p.at;
+    if s.len() < at {
+        return &s[0..0];
+    }
+    part(&s[at..], p.lead, p.length)
 }
 
 // The bytes of a body; an absent record has none.
@@ -102,31 +171,6 @@ pub fn bytes<'a>(s: &'a [u8], f: Found) -> &'a [u8]
 {
     match f {
         Found::Nothing => &s[0..0],
-        Found::At(p) => {
-            let at = p.at;
-            let lead = p.lead;
-            let length = p.length;
-            clipped(s, at, lead, length)
-        }
+        Found::At(p) => body(s, p),
     }
-}
-
-// Of the bytes behind the first `at` and `lead`, those that are among the first `length`.
-fn clipped<'a>(s: &'a [u8], at: usize, lead: usize, length: usize) -> &'a [u8]
-    ensures { λ r. ⌜ now r ≡ take length (drop (at + lead) (now (s .entry))) ⌝ }
-{
-    if s.len() < at {
-        return &s[0..0];
-    }
-    let left = s.len() - at;
-    if left < lead {
-        return &s[0..0];
-    }
-    let start = at + lead;
-    let rest = left - lead;
-    if rest < length {
-        return &s[start..];
-    }
-    let end = start + length;
-    &s[start..end]
 }

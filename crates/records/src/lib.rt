@@ -15,4 +15,5 @@ pub use header::Header;
 pub use header::first;
 pub use kind::Kind;
 pub use table::read;
+pub use table::room;
 pub use table::scan;

@@ -51,6 +51,16 @@ fn lesser(a: usize, b: usize) -> usize
     if a < b { a } else { b }
 }
 
+// How many records have room in four lists: as many as the shortest has entries.
+pub fn room(tags: &[u32], levels: &[u32], places: &[u32], lengths: &[u32]) -> usize
+    ensures { λ r. ⌜ r ≡ shortest (now (tags .entry)) (now (levels .entry)) (now (places .entry)) (now (lengths .entry)) ⌝ }
+{
+    lesser(
+        lesser(tags.len(), levels.len()),
+        lesser(places.len(), lengths.len()),
+    )
+}
+
 // The second pass: the table of a stream whose records all have room.
 fn enter(s: &[u8], tags: &mut [u32], levels: &mut [u32], places: &mut [u32], lengths: &mut [u32])
     requires { ⌜ (length (now s) ≤ limit) × (length (readAll (now s) .recs) ≤ shortest (now tags) (now levels) (now places) (now lengths)) ⌝ }
@@ -90,11 +100,7 @@ pub fn read(
     ensures answer { λ r. ⌜ r ≡ readAnswer (now (s .entry)) (shortest (now (tags .entry)) (now (levels .entry)) (now (places .entry)) (now (lengths .entry))) ⌝ }
     ensures table { λ r. ⌜ Table (entered r (readAll (now (s .entry)) .recs)) (now (tags .entry)) (now (tags .exit)) (now (levels .entry)) (now (levels .exit)) (now (places .entry)) (now (places .exit)) (now (lengths .entry)) (now (lengths .exit)) ⌝ }
 {
-    let room = lesser(
-        lesser(tags.len(), levels.len()),
-        lesser(places.len(), lengths.len()),
-    );
-    match scan(s, room) {
+    match scan(s, room(tags, levels, places, lengths)) {
         Answer::Accepted(n) => {
             enter(s, tags, levels, places, lengths);
             Answer::Accepted(n)

@@ -13,10 +13,10 @@ use records::Kind;
 use records::first;
 use records::read;
 use records::refused;
+use records::room;
 use records::scan;
 ghost use mathlib.Core.Path.{_≡_};
 ghost use mathlib.Core.List.{[]};
-ghost use Prim.Native.Nat.{min};
 ghost use Rattle.records.specs.Reading.{readAll};
 ghost use Rattle.records.specs.Table.{entered, Table, shortest};
 ghost use Rattle.paragraph.specs.Stream.{recordsIn};
@@ -85,12 +85,6 @@ pub fn check(s: &[u8]) -> Answer
     answer_within(s, s.len())
 }
 
-fn lesser(a: usize, b: usize) -> usize
-    ensures { λ r. ⌜ r ≡ min a b ⌝ }
-{
-    if a < b { a } else { b }
-}
-
 // Reads a section's records into four lists, as read does, where the section keeps its rules. A refusal changes no entry.
 pub fn read_section(
     s: &[u8],
@@ -102,11 +96,7 @@ pub fn read_section(
     ensures answer { λ r. ⌜ r ≡ sectionAnswer (now (s .entry)) (shortest (now (tags .entry)) (now (levels .entry)) (now (places .entry)) (now (lengths .entry))) ⌝ }
     ensures table { λ r. ⌜ Table (entered r (readAll (now (s .entry)) .recs)) (now (tags .entry)) (now (tags .exit)) (now (levels .entry)) (now (levels .exit)) (now (places .entry)) (now (places .exit)) (now (lengths .entry)) (now (lengths .exit)) ⌝ }
 {
-    let room = lesser(
-        lesser(tags.len(), levels.len()),
-        lesser(places.len(), lengths.len()),
-    );
-    match answer_within(s, room) {
+    match answer_within(s, room(tags, levels, places, lengths)) {
         Answer::Accepted(_) => read(s, tags, levels, places, lengths),
         Answer::Refused(r) => Answer::Refused(r),
     }

@@ -6,3 +6,4 @@ pub mod StepLaws
 pub mod JudgeLaws
 pub mod SoundLaws
 pub mod PartLaws
+pub mod RunLaws

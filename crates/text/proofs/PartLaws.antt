@@ -105,12 +105,12 @@ tokens-replaced x y z w h o =
 
 -- ---- the extended controls stay as many
 
-extended-append : (ts us : List Token) → extendedIn (ts ++ us) ≡ extendedIn ts + extendedIn us
+pub extended-append : (ts us : List Token) → extendedIn (ts ++ us) ≡ extendedIn ts + extendedIn us
 unfolding extendedIn
 extended-append [] us = omega arith
 extended-append (t ∷ ts) us = rw (extended-append ts us) (sym (add-assoc (isExtended (t .what)) (extendedIn ts) (extendedIn us)))
 
-extended-singles : (p : ℕ) (x : List ℕ) → extendedIn (singles p x) ≡ 0
+pub extended-singles : (p : ℕ) (x : List ℕ) → extendedIn (singles p x) ≡ 0
 unfolding extendedIn singles
 extended-singles p [] = refl
 extended-singles p (u ∷ x) = rw (extended-singles (p + 1) x)

@@ -1,10 +1,10 @@
 -- The walk over a text's units (document 01, 'Text units').
 use Prim.Native.Nat.{ℕ, zero, suc, _+_, _-_, _≤_}
 use mathlib.Core.Path.{_≡_}
-use mathlib.Core.Bool.{Bool, false, cond, _||_, not}
+use mathlib.Core.Bool.{Bool, true, false, cond, _&&_, _||_, not}
 use mathlib.Core.Option.{Option, none, some}
 use mathlib.Core.List.{List, [], _∷_, _++_}
-use lib.Dec.{ltb, eqb}
+use lib.Dec.{ltb, leb, eqb}
 use lib.ListN.{length, getD, drop}
 use Rattle.text.specs.declared.Class.{Class}
 use Rattle.text.specs.declared.Class.the-variants.{Character, Inline, Extended}
@@ -93,6 +93,18 @@ tokensAt us p = walk p 0 (drop p us)
 abbrev pub AllOrdinary : List ℕ → Type 0
 AllOrdinary [] = Unit {0}
 AllOrdinary (u ∷ us) = (32 ≤ u) × AllOrdinary us
+
+-- how many ordinary units stand before the first unit below 32, the last unit left aside
+unfoldable pub run : List ℕ → ℕ
+run [] = 0
+run (u ∷ []) = 0
+run (u ∷ v ∷ us) = elim (ltb u 32) [ true ↦ 0 | false ↦ suc (run (v ∷ us)) ]
+
+-- the four units from position p on are ordinary and stand before a position
+unfoldable pub fourBefore : ℕ → ℕ → List ℕ → Bool
+fourBefore end p us =
+    leb (p + 4) end
+    && (leb 32 (getD us p 0) && (leb 32 (getD us (p + 1) 0) && (leb 32 (getD us (p + 2) 0) && leb 32 (getD us (p + 3) 0))))
 
 -- 1 of an extended control, else 0
 abbrev pub isExtended : Standing → ℕ

@@ -1,9 +1,10 @@
 // A paragraph's text: what stands at each position, and whether the text keeps its rules.
+use numbers::number16;
 ghost use mathlib.Core.Path.{_≡_};
-ghost use Prim.Native.Nat.{_+_, _*_, _≤_, _<_};
-ghost use lib.ListN.{getD};
+ghost use Prim.Native.Nat.{_+_, _-_, _*_, _/_, _≤_, _<_};
+ghost use lib.ListN.{length, getD, drop};
 ghost use Rattle.text.specs.Units.{units};
-ghost use Rattle.text.specs.Walk.{classOf, what, width, isExtended};
+ghost use Rattle.text.specs.Walk.{classOf, what, width, run, fourBefore, isExtended};
 ghost use Rattle.text.specs.Answers.{stepAt, cursor, judged};
 
 // A position of the text, in units; it is never added to a byte offset.
@@ -56,7 +57,7 @@ fn unit(text: &[u8], p: usize) -> u32
 {
     if p < text.len() / 2 {
         let at = 2 * p;
-        numbers::number16(&text[at..])
+        number16(&text[at..])
     } else {
         0
     }
@@ -67,6 +68,10 @@ fn class_of(code: usize) -> Class
     requires { ⌜ code < 32 ⌝ }
     ensures { λ r. ⌜ r ≡ classOf code ⌝ }
 {
+    // The end of a text, which every text has: the table is laid out anew at each look.
+    if code == 13 {
+        return Class::Character;
+    }
     let table = b"CXXXIIIIIICXXCXXXXXIIXXXCCCCCCCC";
     match table[code] {
         b'X' => Class::Extended,
@@ -105,12 +110,63 @@ fn positions(what: Standing) -> usize
     }
 }
 
+// The position of the last unit; 0 where there is none.
+fn last(text: &[u8]) -> usize
+    ensures { λ r. ⌜ r ≡ length (now (text .entry)) / 2 - 1 ⌝ }
+{
+    let n = text.len() / 2;
+    if n == 0 { 0 } else { n - 1 }
+}
+
+// The next four units are ordinary and stand before the position `end`.
+fn four_ordinary(text: &[u8], p: usize, end: usize) -> bool
+    requires { ⌜ (p < end) × (end ≤ length (now text) / 2) ⌝ }
+    ensures { λ r. ⌜ r ≡ fourBefore end p (units (now (text .entry))) ⌝ }
+{
+    if end - p < 4 {
+        return false;
+    }
+    let from = 2 * p;
+    let to = from + 8;
+    let four = &text[from..to];
+    if number16(four) < 32 {
+        return false;
+    }
+    if number16(&four[2..]) < 32 {
+        return false;
+    }
+    if number16(&four[4..]) < 32 {
+        return false;
+    }
+    32 <= number16(&four[6..])
+}
+
 impl Cursor {
     // The walk at the start of a text.
     pub fn start() -> Cursor
         ensures { λ r. ⌜ r ≡ cursor 0 ⌝ }
     {
         Cursor { at: Position(0) }
+    }
+
+    // The walk at the next unit below 32, or at the last unit. Most units are ordinary, and what it passes breaks no rule.
+    pub fn past_ordinary(self, text: &[u8]) -> Cursor
+        ensures { λ r. ⌜ r ≡ cursor (self .at .0 + run (drop (self .at .0) (units (now (text .entry))))) ⌝ }
+    {
+        let at = self.at;
+        let end = last(text);
+        let mut p = at.0;
+        while p < end {
+            if four_ordinary(text, p, end) {
+                p += 4;
+            } else {
+                if unit(text, p) < 32 {
+                    break;
+                }
+                p += 1;
+            }
+        }
+        Cursor { at: Position(p) }
     }
 
     // What stands at the cursor, and the cursor behind it.
@@ -185,8 +241,8 @@ pub fn judge(text: &[u8]) -> Judged
     let mut cursor = Cursor::start();
     let mut count = 0;
     loop {
-        let step = cursor.step(text);
-        match step {
+        let control = cursor.past_ordinary(text);
+        match control.step(text) {
             Step::Stands { at: _, what, next } => {
                 count += extended(what);
                 cursor = next;

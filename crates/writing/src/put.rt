@@ -1,4 +1,5 @@
 // Bytes put one behind the other into a buffer. What has no room is not written, and is counted all the same.
+use numbers::part;
 use numbers::put_all;
 use numbers::put32;
 use pack::put_header;
@@ -19,21 +20,6 @@ fn ahead(at: usize, n: usize) -> usize
     } else {
         at + n
     }
-}
-
-// Of the bytes from `from` on the first n, as far as there are any.
-pub fn part<'a>(s: &'a [u8], from: usize, n: usize) -> &'a [u8]
-    ensures { λ r. ⌜ now r ≡ take n (drop from (now (s .entry))) ⌝ }
-{
-    if s.len() < from {
-        return &s[0..0];
-    }
-    let left = s.len() - from;
-    if left < n {
-        return &s[from..];
-    }
-    let end = from + n;
-    &s[from..end]
 }
 
 // Puts s at `at`, and hands out the place behind it.

@@ -9,6 +9,13 @@ ghost use Rattle.filling.specs.Shapes.{entryAt, inside, anyInside, moved, packe
 ghost use Rattle.writing.specs.Putting.{Puts};
 ghost use Rattle.writing.specs.Keeping.{shapesFrom, kept};
 
+// What a fill does to the positions of a text: those from a up to b go, v come in their place.
+pub struct Change {
+    pub a: usize,
+    pub b: usize,
+    pub v: usize,
+}
+
 pub fn wide(x: u32) -> usize
     ensures { λ r. ⌜ (r ≡ x) × (r < 4294967296) ⌝ }
 {
@@ -33,10 +40,13 @@ pub fn between(a: usize, b: usize) -> usize
 }
 
 // Where a start goes that is kept.
-fn new_start(a: usize, b: usize, v: usize, start: usize) -> usize
-    requires { ⌜ (start < 4294967296) × (v ≤ 9223372036854775807) ⌝ }
-    ensures { λ r. ⌜ r ≡ moved a b v start ⌝ }
+fn new_start(change: Change, start: usize) -> usize
+    requires { ⌜ (start < 4294967296) × (change .v ≤ 9223372036854775807) ⌝ }
+    ensures { λ r. ⌜ r ≡ moved (change .a) (change .b) (change .v) start ⌝ }
 {
+    let a = change.a;
+    let b = change.b;
+    let v = change.v;
     if start < a {
         return start;
     }
@@ -64,10 +74,12 @@ fn any_inside(body: &[u8], from: usize, a: usize, b: usize) -> bool
 }
 
 // Puts entry i with its new start, if it is kept.
-fn put_kept(out: &mut [u8], at: usize, body: &[u8], i: usize, a: usize, b: usize, v: usize) -> usize
-    requires { ⌜ (i < length (now body) / 8) × (v ≤ 9223372036854775807) ⌝ }
-    ensures { λ r. ⌜ Puts (now (out .entry)) at (packed (kept a b v (entryAt (drop (8 * i) (now (body .entry)))) (shapesFrom (now (body .entry)) (i + 1)))) r (now (out .exit)) ⌝ }
+fn put_kept(out: &mut [u8], at: usize, body: &[u8], i: usize, change: Change) -> usize
+    requires { ⌜ (i < length (now body) / 8) × (change .v ≤ 9223372036854775807) ⌝ }
+    ensures { λ r. ⌜ Puts (now (out .entry)) at (packed (kept (change .a) (change .b) (change .v) (entryAt (drop (8 * i) (now (body .entry)))) (shapesFrom (now (body .entry)) (i + 1)))) r (now (out .exit)) ⌝ }
 {
+    let a = change.a;
+    let b = change.b;
     let from = 8 * i;
     let start = wide(number32(&body[from..]));
     if within(a, b, start) {
@@ -75,20 +87,20 @@ fn put_kept(out: &mut [u8], at: usize, body: &[u8], i: usize, a: usize, b: usize
             return at;
         }
     }
-    let behind = put_low(out, at, new_start(a, b, v, start), 4);
+    let behind = put_low(out, at, new_start(change, start), 4);
     put_part(out, behind, body, from + 4, 4)
 }
 
 // Puts the entries: of those from a to b inclusive only the last is kept.
-pub fn put_entries(out: &mut [u8], at: usize, body: &[u8], a: usize, b: usize, v: usize) -> usize
-    requires { ⌜ v ≤ 9223372036854775807 ⌝ }
-    ensures { λ r. ⌜ Puts (now (out .entry)) at (packed (shapesAfter a b v (shapesIn (now (body .entry))))) r (now (out .exit)) ⌝ }
+pub fn put_entries(out: &mut [u8], at: usize, body: &[u8], change: Change) -> usize
+    requires { ⌜ change .v ≤ 9223372036854775807 ⌝ }
+    ensures { λ r. ⌜ Puts (now (out .entry)) at (packed (shapesAfter (change .a) (change .b) (change .v) (shapesIn (now (body .entry))))) r (now (out .exit)) ⌝ }
 {
     let n = body.len() / 8;
     let mut i: usize = 0;
     let mut p = at;
     while i < n {
-        p = put_kept(out, p, body, i, a, b, v);
+        p = put_kept(out, p, body, i, change);
         i = i + 1;
     }
     p

@@ -1,9 +1,11 @@
 // The sheet of a fill: measured, and written.
 use crate::behind::put_behind;
+use crate::child::Spot;
 use crate::child::shapes_length;
 use crate::head::put_paragraph;
-use crate::put::part;
 use crate::put::put_part;
+use crate::shapes::Change;
+use numbers::part;
 use paragraph::bytes;
 use paragraph::find;
 use records::Front;
@@ -22,26 +24,18 @@ ghost use Rattle.writing.specs.Putting.{largest, Puts, Narrow};
 ghost use Rattle.writing.specs.Sheet.{fieldOf, sheetBytes, sheetOf};
 
 // How many shapes a paragraph has after a fill; the records behind its header begin at `behind`, its children are at level n.
-fn count_shapes(s: &[u8], behind: usize, n: u32, a: usize, b: usize, v: usize) -> usize
-    requires { ⌜ v ≤ 9223372036854775807 ⌝ }
-    ensures { λ r. ⌜ r ≡ length (shapesAfter a b v (shapesOf (child 68 (kids n (recordsIn (drop behind (now (s .entry)))))))) ⌝ }
+fn count_shapes(s: &[u8], behind: usize, n: u32, change: Change) -> usize
+    requires { ⌜ change .v ≤ 9223372036854775807 ⌝ }
+    ensures { λ r. ⌜ r ≡ length (shapesAfter (change .a) (change .b) (change .v) (shapesOf (child 68 (kids n (recordsIn (drop behind (now (s .entry)))))))) ⌝ }
 {
     let body = bytes(s, find(s, behind, n, Kind::SHAPES, 0));
-    shapes_length(body, a, b, v) / 8
+    shapes_length(body, change) / 8
 }
 
 // Puts the sheet: the stream up to the paragraph header, the paragraph changed, and all behind it.
-fn put_sheet(
-    out: &mut [u8],
-    s: &[u8],
-    header: usize,
-    ordinal: usize,
-    a: usize,
-    b: usize,
-    value: &[u8],
-) -> usize
+fn put_sheet(out: &mut [u8], s: &[u8], header: usize, spot: Spot, value: &[u8]) -> usize
     requires { ⌜ Narrow (now s) × Narrow (now value) ⌝ }
-    ensures { λ r. ⌜ Puts (now (out .entry)) 0 (sheetBytes (fieldOf ordinal a b) (now (value .entry)) (now (s .entry)) header) r (now (out .exit)) ⌝ }
+    ensures { λ r. ⌜ Puts (now (out .entry)) 0 (sheetBytes (fieldOf (spot .ordinal) (spot .a) (spot .b)) (now (value .entry)) (now (s .entry)) header) r (now (out .exit)) ⌝ }
 {
     let p = put_part(out, 0, s, 0, header);
     if s.len() <= header {
@@ -49,19 +43,21 @@ fn put_sheet(
     }
     match first(&s[header..], 1023) {
         Front::Record(h) => {
-            let tag = h.tag;
-            let level = h.level;
             let length = h.length;
             let start = header + h.lead;
             let behind = start + length;
             if length < 22 {
                 return put_part(out, p, s, header, s.len());
             }
-            let n = level + 1;
-            let v = value.len() / 2;
-            let shapes = count_shapes(s, behind, n, a, b, v);
-            let q = put_paragraph(out, p, tag, level, part(s, start, length), shapes, a, b, v);
-            put_behind(out, q, s, behind, n, ordinal, a, b, value)
+            let n = h.level + 1;
+            let change = Change {
+                a: spot.a,
+                b: spot.b,
+                v: value.len() / 2,
+            };
+            let shapes = count_shapes(s, behind, n, change);
+            let q = put_paragraph(out, p, h, part(s, start, length), shapes, change);
+            put_behind(out, q, s, behind, n, spot, value)
         }
         Front::Refused(_) => put_part(out, p, s, header, s.len()),
     }
@@ -85,7 +81,12 @@ pub fn write(
     if 4294967295 < value.len() {
         return 0;
     }
-    put_sheet(out, s, header.0, ordinal, a.0, b.0, value)
+    let spot = Spot {
+        ordinal,
+        a: a.0,
+        b: b.0,
+    };
+    put_sheet(out, s, header.0, spot, value)
 }
 
 // How many bytes the sheet has: the same walk, with no room to write.

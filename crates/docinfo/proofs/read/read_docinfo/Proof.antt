@@ -1,8 +1,6 @@
 -- The DocInfo read answers and enters as document 01 has it. Assumes nothing.
-use Prim.Native.Nat.{min}
 use borrow.Author.Needs.{needs}
-use mathlib.Core.Path.{_≡_, sym, ap, ap₂, _∙_}
-use lib.ListN.{length}
+use mathlib.Core.Path.{_≡_, sym, ap, _∙_}
 use Rattle.records.specs.Table.{shortest}
 use Rattle.records.proofs.TableLaws.{untouched}
 use Rattle.docinfo.specs.DocInfo.{docinfoAnswer}
@@ -12,17 +10,11 @@ use Rattle.docinfo.proofs.read.read_docinfo.Tie as tie
 use Rattle.docinfo.proofs.read.read_docinfo.Reads as reads
 use Rattle.docinfo.proofs.read.read_docinfo.Lts as lts
 use Rattle.docinfo.proofs.read.check_docinfo.Reads as check-docinfo-reads
-use Rattle.docinfo.proofs.read.lesser.Reads as lesser-reads
+use Rattle.records.proofs.room.Reads as room-reads
 use Rattle.records.proofs.read.Reads as read-reads
 
-lesser-requires : tie.Need-lesser-requires
-lesser-requires c κs = search needs
-
-lesser-requires-2 : tie.Need-lesser-requires-2
-lesser-requires-2 c κs = search needs
-
-lesser-requires-3 : tie.Need-lesser-requires-3
-lesser-requires-3 c κs = search needs
+room-requires : tie.Need-room-requires
+room-requires c κs = search needs
 
 check-docinfo-requires : tie.Need-check-docinfo-requires
 check-docinfo-requires c κs = search needs
@@ -38,16 +30,12 @@ enum-known-r c = search needs
 
 -- the function's entry, and what the check answered, with room as the contract has it
 abbrev start : tie.After-check-docinfo → tie.Start
-start c = c .before .before .before .before .before .before .before .before .before
+start c = c .before .before .before .before .before .before .before .before .before .before .before
 
 checked : (c : tie.After-check-docinfo)
     → c .check-docinfo .result
     ≡ docinfoAnswer (start c .args .s .now) (shortest (start c .args .tags .now) (start c .args .levels .now) (start c .args .places .now) (start c .args .lengths .now))
-checked c =
-    let room : c .before .lesser3 .result ≡ min (c .before .before .before .lesser .result) (c .before .before .lesser2 .result) = c .before .lesser3 .ensures in
-    let left : c .before .before .before .lesser .result ≡ min (length (start c .args .tags .now)) (length (start c .args .levels .now)) = c .before .before .before .lesser .ensures in
-    let right : c .before .before .lesser2 .result ≡ min (length (start c .args .places .now)) (length (start c .args .lengths .now)) = c .before .before .lesser2 .ensures in
-    c .check-docinfo .ensures ∙ ap (docinfoAnswer _) (room ∙ ap₂ min left right)
+checked c = c .check-docinfo .ensures ∙ ap (docinfoAnswer _) (c .before .room .ensures)
 
 same-length : tie.Need-same-length
 same-length c = search needs
@@ -67,6 +55,18 @@ returns c =
     let read-so = c .before .before .before .before .before .before .before .before .read .ensures in
     (read-so .0 ∙ answer-accepted _ _ _ (sym (checked d) ∙ c .before .before .before .before .before .before .before .before .before .before .before .before .before .enum-told .given .1), read-so .1)
 
+same-length-5 : tie.Need-same-length-5
+same-length-5 c = search needs
+
+same-length-6 : tie.Need-same-length-6
+same-length-6 c = search needs
+
+same-length-7 : tie.Need-same-length-7
+same-length-7 c = search needs
+
+same-length-8 : tie.Need-same-length-8
+same-length-8 c = search needs
+
 returns-2 : tie.Need-returns-2
 returns-2 c = (sym (c .before .r .given .1) ∙ checked (c .before .before .before), untouched _ _ _ _)
 
@@ -74,9 +74,7 @@ pub read-docinfo-spec : {M : Type 1} → statement M
 read-docinfo-spec =
     tie.close
     (tie.spec
-    lesser-requires
-    lesser-requires-2
-    lesser-requires-3
+    room-requires
     check-docinfo-requires
     enum-told
     read-requires
@@ -86,4 +84,8 @@ read-docinfo-spec =
     same-length-3
     same-length-4
     returns
+    same-length-5
+    same-length-6
+    same-length-7
+    same-length-8
     returns-2)

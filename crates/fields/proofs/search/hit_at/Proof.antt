@@ -14,7 +14,7 @@ closed-by-requires : tie.Need-closed-by-requires
 closed-by-requires c κs = search needs
 
 returns : tie.Need-returns
-returns c = ap (hitFrom _ _ _ _) (c .closed-by .ensures)
+returns c = ap (hitFrom (c .before .before .args .paragraph) _ _ _) (c .closed-by .ensures)
 
 pub hit-at-spec : {M : Type 1} → statement M
 hit-at-spec = tie.close (tie.spec add-a closed-by-requires returns)

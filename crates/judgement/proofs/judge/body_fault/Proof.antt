@@ -48,7 +48,7 @@ enum-told-2 : tie.Need-enum-told-2
 enum-told-2 c = search needs
 
 control-fault-requires : tie.Need-control-fault-requires
-control-fault-requires c κs = (sound (c .before .before .before .before .before) .fault-none, sound (c .before .before .before .before .before) .extended-is)
+control-fault-requires c κs = (sound (c .before .before .before .before .before) .fault-none, (sound (c .before .before .before .before .before) .extended-is, c .before .before .before .before .before .before .before .before .before .before .before .pre))
 
 returns : tie.Need-returns
 returns c = c .of-child .ensures ∙ body-broken _ _ _ _ _ (text-broken (c .before .before .before .before .before .before .args .s .now) (c .before .before .before .before .before .before .args .p .text) _ _ (c .before .before .before .before .bytes .ensures) (c .before .before .before .judge-text .ensures) _ (c .before .enum-told .given .1))

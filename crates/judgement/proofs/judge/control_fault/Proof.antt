@@ -21,29 +21,25 @@ texts c = units (c .args .text .now)
 abbrev headers : tie.Start → List (List ℕ)
 headers c = controls (kids (c .args .n) (recordsIn (drop (c .args .from) (c .args .s .now))))
 
-count-controls-requires : tie.Need-count-controls-requires
-count-controls-requires c κs = search needs
-
 of-header-requires : tie.Need-of-header-requires
 of-header-requires c κs = search needs
 
 returns : tie.Need-returns
-returns c = c .of-header .ensures ∙ control-unmatched (texts (c .before .before .before .before .before)) (headers (c .before .before .before .before .before)) _ _ (c .before .before .count-controls .ensures) (c .before .before .before .before .before .pre .1) (c .before .if1 .taken)
+returns c = c .of-header .ensures ∙ control-unmatched (texts (c .before .before .before .before)) (headers (c .before .before .before .before)) _ _ (c .before .before .before .before .pre .1 .1) (c .before .before .before .before .pre .1 .0) (c .before .if1 .taken)
 
 returns-2 : tie.Need-returns-2
-returns-2 c = control-none (texts (c .before .before .before .before .before)) (headers (c .before .before .before .before .before)) _ _ (c .before .before .count-controls .ensures) (c .before .before .before .before .before .pre .1) (c .before .if1 .left) (c .if2 .taken)
+returns-2 c = control-none (texts (c .before .before .before .before)) (headers (c .before .before .before .before)) _ _ (c .before .before .before .before .pre .1 .1) (c .before .before .before .before .pre .1 .0) (c .before .if1 .left) (c .if2 .taken)
 
 field-fault-requires : tie.Need-field-fault-requires
 field-fault-requires c κs = search needs
 
 returns-3 : tie.Need-returns-3
-returns-3 c = control-matched (texts (c .before .before .before .before .before .before)) (headers (c .before .before .before .before .before .before)) _ _ (c .before .before .before .count-controls .ensures) (c .before .before .before .before .before .before .pre .1) (c .before .before .if1 .left) _ (c .field-fault .ensures)
+returns-3 c = control-matched (texts (c .before .before .before .before .before)) (headers (c .before .before .before .before .before)) _ _ (c .before .before .before .before .before .pre .1 .1) (c .before .before .before .before .before .pre .1 .0) (c .before .before .if1 .left) _ (c .field-fault .ensures)
 
 pub control-fault-spec : {M : Type 1} → statement M
 control-fault-spec =
     tie.close
     (tie.spec
-    count-controls-requires
     of-header-requires
     returns
     returns-2

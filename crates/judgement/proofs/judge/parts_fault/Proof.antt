@@ -1,7 +1,7 @@
 -- 10 to 15 are found as `partsFault` has it. Assumes nothing.
 use mathlib.Core.Path.{_≡_, sym, _∙_}
 use Rattle.numbers.proofs.LittleLaws.{slice-bytes}
-use Rattle.judgement.proofs.JudgeLaws.{parts-absent, parts-lengths, parts-bodies}
+use Rattle.judgement.proofs.JudgeLaws.{controls-are, parts-absent, parts-lengths, parts-bodies}
 use borrow.Author.Needs.{needs}
 use Rattle.judgement.proofs.judge.parts_fault.Statement.{statement}
 use Rattle.judgement.proofs.judge.parts_fault.Tie as tie
@@ -34,7 +34,7 @@ enum-told : tie.Need-enum-told
 enum-told c = search needs
 
 body-fault-requires : tie.Need-body-fault-requires
-body-fault-requires c κs = search needs
+body-fault-requires c κs = controls-are (c .before .before .before .before .before .before .before .args .s .now) (slice-bytes (c .before .before .before .before .before .before .before .args .s .now) (c .before .before .before .before .before .before .shared-slice-known .given)) _ _ _ (c .before .before .before .before .before .find-parts .ensures)
 
 returns-2 : tie.Need-returns-2
 returns-2 c = parts-lengths (c .before .before .before .before .before .before .before .before .args .s .now) (slice-bytes (c .before .before .before .before .before .before .before .before .args .s .now) (c .before .before .before .before .before .before .before .shared-slice-known .given)) _ _ _ (c .before .before .before .before .before .before .find-parts .ensures) _ _ (c .before .before .before .before .before .absent .ensures) _ (c .before .before .before .length-fault .ensures) (c .before .before .before .before .if1 .left) _ _ (c .before .fault .given .1)

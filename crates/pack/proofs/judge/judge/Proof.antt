@@ -8,16 +8,10 @@ use Rattle.pack.proofs.judge.judge.Tie as tie
 use Rattle.pack.proofs.judge.judge.Reads as reads
 use Rattle.pack.proofs.judge.judge.Lts as lts
 use Rattle.pack.proofs.judge.judge_rows.Reads as judge-rows-reads
-use Rattle.pack.proofs.judge.lesser.Reads as lesser-reads
+use Rattle.records.proofs.room.Reads as room-reads
 
-lesser-requires : tie.Need-lesser-requires
-lesser-requires c κs = search needs
-
-lesser-requires-2 : tie.Need-lesser-requires-2
-lesser-requires-2 c κs = search needs
-
-lesser-requires-3 : tie.Need-lesser-requires-3
-lesser-requires-3 c κs = search needs
+room-requires : tie.Need-room-requires
+room-requires c κs = search needs
 
 returns : tie.Need-returns
 returns c = sym (lists-short _ _ _ _ _ _ _ (omega arith))
@@ -32,9 +26,7 @@ pub judge-spec : {M : Type 1} → statement M
 judge-spec =
     tie.close
     (tie.spec
-    lesser-requires
-    lesser-requires-2
-    lesser-requires-3
+    room-requires
     returns
     judge-rows-requires
     returns-2)

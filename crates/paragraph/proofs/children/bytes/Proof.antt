@@ -8,7 +8,7 @@ use Rattle.paragraph.proofs.children.bytes.Statement.{statement}
 use Rattle.paragraph.proofs.children.bytes.Tie as tie
 use Rattle.paragraph.proofs.children.bytes.Reads as reads
 use Rattle.paragraph.proofs.children.bytes.Lts as lts
-use Rattle.paragraph.proofs.children.clipped.Reads as clipped-reads
+use Rattle.paragraph.proofs.children.body.Reads as body-reads
 
 enum-told : tie.Need-enum-told
 enum-told c = search needs
@@ -25,14 +25,14 @@ part-result-end c = search needs
 enum-known-f : tie.Need-enum-known-f
 enum-known-f c = search needs
 
-clipped-requires : tie.Need-clipped-requires
-clipped-requires c κs = search needs
+body-requires : tie.Need-body-requires
+body-requires c κs = search needs
 
 returns : tie.Need-returns
 returns c = search needs
 
 returns-2 : tie.Need-returns-2
-returns-2 c = c .clipped .ensures ∙ ap (λ (f : Found). bytesIn (bodyFound (c .before .before .before .before .before .args .s .now) f)) (sym (c .before .before .f .given .1))
+returns-2 c = c .body .ensures ∙ ap (λ (f : Found). bytesIn (bodyFound (c .before .before .before .before .before .args .s .now) f)) (sym (c .before .before .f .given .1))
 
 pub bytes-spec : {M : Type 1} → statement M
 bytes-spec =
@@ -43,6 +43,6 @@ bytes-spec =
     part-result-start
     part-result-end
     enum-known-f
-    clipped-requires
+    body-requires
     returns
     returns-2)

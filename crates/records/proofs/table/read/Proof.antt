@@ -1,7 +1,5 @@
 -- Read answers and enters as document 01 has it. Assumes nothing.
-use Prim.Native.Nat.{min}
-use mathlib.Core.Path.{_≡_, refl, sym, ap, ap₂, _∙_}
-use lib.ListN.{length}
+use mathlib.Core.Path.{_≡_, sym, ap, _∙_}
 use Rattle.records.specs.Table.{readAnswer, shortest}
 use Rattle.records.proofs.ScanLaws.{accepted}
 use Rattle.records.proofs.TableLaws.{untouched}
@@ -11,17 +9,20 @@ use Rattle.records.proofs.table.read.Tie as tie
 use Rattle.records.proofs.table.read.Reads as reads
 use Rattle.records.proofs.table.read.Lts as lts
 use Rattle.records.proofs.table.enter.Reads as enter-reads
-use Rattle.records.proofs.table.lesser.Reads as lesser-reads
+use Rattle.records.proofs.table.room.Reads as room-reads
 use Rattle.records.proofs.table.scan.Reads as scan-reads
 
-lesser-requires : tie.Need-lesser-requires
-lesser-requires c κs = search needs
+-- the function's entry, and what the scan answered, with room as the contract has it
+abbrev start : tie.After-scan → tie.Start
+start c = c .before .before .before .before .before .before .before .before .before .before .before
 
-lesser-requires-2 : tie.Need-lesser-requires-2
-lesser-requires-2 c κs = search needs
+scanned : (c : tie.After-scan)
+    → c .scan .result
+    ≡ readAnswer (start c .args .s .now) (shortest (start c .args .tags .now) (start c .args .levels .now) (start c .args .places .now) (start c .args .lengths .now))
+scanned c = c .scan .ensures ∙ ap (readAnswer _) (c .before .room .ensures)
 
-lesser-requires-3 : tie.Need-lesser-requires-3
-lesser-requires-3 c κs = search needs
+room-requires : tie.Need-room-requires
+room-requires c κs = search needs
 
 scan-requires : tie.Need-scan-requires
 scan-requires c κs = search needs
@@ -29,18 +30,8 @@ scan-requires c κs = search needs
 enum-known-n : tie.Need-enum-known-n
 enum-known-n c = search needs
 
--- what the scan answered, with room as the contract has it
-scanned : (c : tie.After-scan) → c .scan .result ≡ readAnswer (c .before .before .before .before .before .before .before .before .before .args .s .now) (shortest (c .before .before .before .before .before .before .before .before .before .args .tags .now) (c .before .before .before .before .before .before .before .before .before .args .levels .now) (c .before .before .before .before .before .before .before .before .before .args .places .now) (c .before .before .before .before .before .before .before .before .before .args .lengths .now))
-scanned c =
-    let room : c .before .lesser3 .result ≡ min (c .before .before .before .lesser .result) (c .before .before .lesser2 .result) = c .before .lesser3 .ensures in
-    let left : c .before .before .before .lesser .result ≡ min (length (c .before .before .before .before .before .before .before .before .before .args .tags .now)) (length (c .before .before .before .before .before .before .before .before .before .args .levels .now)) = c .before .before .before .lesser .ensures in
-    let right : c .before .before .lesser2 .result ≡ min (length (c .before .before .before .before .before .before .before .before .before .args .places .now)) (length (c .before .before .before .before .before .before .before .before .before .args .lengths .now)) = c .before .before .lesser2 .ensures in
-    c .scan .ensures ∙ ap (readAnswer _) (room ∙ ap₂ min left right)
-
 enter-requires : tie.Need-enter-requires
-enter-requires c κs =
-    let a = c .before .before .before .before .before .before .before in
-    let k = accepted _ _ _ (sym (scanned a) ∙ c .before .before .before .before .before .n .given .1) in (k .small, k .fits)
+enter-requires c κs = let k = accepted _ _ _ (sym (scanned (c .before .before .before .before .before .before .before)) ∙ c .before .before .before .before .before .n .given .1) in (k .small, k .fits)
 
 enum-known-r : tie.Need-enum-known-r
 enum-known-r c = search needs
@@ -60,19 +51,26 @@ same-length-4 c = search needs
 returns : tie.Need-returns
 returns c = (sym (c .before .before .before .before .before .before .before .before .before .before .before .before .before .before .n .given .1) ∙ scanned (c .before .before .before .before .before .before .before .before .before .before .before .before .before .before .before .before), c .before .before .before .before .before .before .before .before .enter .ensures)
 
+same-length-5 : tie.Need-same-length-5
+same-length-5 c = search needs
+
+same-length-6 : tie.Need-same-length-6
+same-length-6 c = search needs
+
+same-length-7 : tie.Need-same-length-7
+same-length-7 c = search needs
+
+same-length-8 : tie.Need-same-length-8
+same-length-8 c = search needs
+
 returns-2 : tie.Need-returns-2
-returns-2 c = (
-  sym (c .before .r .given .1) ∙ scanned (c .before .before .before),
-  untouched _ _ _ _,
-)
+returns-2 c = (sym (c .before .r .given .1) ∙ scanned (c .before .before .before), untouched _ _ _ _)
 
 pub read-spec : {M : Type 1} → statement M
 read-spec =
     tie.close
     (tie.spec
-    lesser-requires
-    lesser-requires-2
-    lesser-requires-3
+    room-requires
     scan-requires
     enum-known-n
     enter-requires
@@ -82,4 +80,8 @@ read-spec =
     same-length-3
     same-length-4
     returns
+    same-length-5
+    same-length-6
+    same-length-7
+    same-length-8
     returns-2)

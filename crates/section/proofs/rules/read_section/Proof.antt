@@ -1,7 +1,5 @@
 -- The section read answers and enters as document 01 has it. Assumes nothing.
-use Prim.Native.Nat.{min}
-use mathlib.Core.Path.{_≡_, refl, sym, ap, ap₂, _∙_}
-use lib.ListN.{length}
+use mathlib.Core.Path.{_≡_, sym, ap, _∙_}
 use Rattle.records.specs.Table.{shortest}
 use Rattle.records.proofs.TableLaws.{untouched}
 use Rattle.section.specs.Section.{sectionAnswer}
@@ -13,24 +11,19 @@ use Rattle.section.proofs.rules.read_section.Reads as reads
 use Rattle.section.proofs.rules.read_section.Lts as lts
 use Rattle.records.proofs.read.Reads as read-reads
 use Rattle.section.proofs.rules.answer_within.Reads as answer-within-reads
-use Rattle.section.proofs.rules.lesser.Reads as lesser-reads
+use Rattle.records.proofs.room.Reads as room-reads
 
--- what the section's rules answered, with room as the contract has it
-judged : (c : tie.After-answer-within) → c .answer-within .result ≡ sectionAnswer (c .before .before .before .before .before .before .before .before .before .args .s .now) (shortest (c .before .before .before .before .before .before .before .before .before .args .tags .now) (c .before .before .before .before .before .before .before .before .before .args .levels .now) (c .before .before .before .before .before .before .before .before .before .args .places .now) (c .before .before .before .before .before .before .before .before .before .args .lengths .now))
-judged c =
-    let room : c .before .lesser3 .result ≡ min (c .before .before .before .lesser .result) (c .before .before .lesser2 .result) = c .before .lesser3 .ensures in
-    let left : c .before .before .before .lesser .result ≡ min (length (c .before .before .before .before .before .before .before .before .before .args .tags .now)) (length (c .before .before .before .before .before .before .before .before .before .args .levels .now)) = c .before .before .before .lesser .ensures in
-    let right : c .before .before .lesser2 .result ≡ min (length (c .before .before .before .before .before .before .before .before .before .args .places .now)) (length (c .before .before .before .before .before .before .before .before .before .args .lengths .now)) = c .before .before .lesser2 .ensures in
-    c .answer-within .ensures ∙ ap (sectionAnswer _) (room ∙ ap₂ min left right)
+-- the function's entry, and what the section's rules answered, with room as the contract has it
+abbrev start : tie.After-answer-within → tie.Start
+start c = c .before .before .before .before .before .before .before .before .before .before .before
 
-lesser-requires : tie.Need-lesser-requires
-lesser-requires c κs = search needs
+judged : (c : tie.After-answer-within)
+    → c .answer-within .result
+    ≡ sectionAnswer (start c .args .s .now) (shortest (start c .args .tags .now) (start c .args .levels .now) (start c .args .places .now) (start c .args .lengths .now))
+judged c = c .answer-within .ensures ∙ ap (sectionAnswer _) (c .before .room .ensures)
 
-lesser-requires-2 : tie.Need-lesser-requires-2
-lesser-requires-2 c κs = search needs
-
-lesser-requires-3 : tie.Need-lesser-requires-3
-lesser-requires-3 c κs = search needs
+room-requires : tie.Need-room-requires
+room-requires c κs = search needs
 
 answer-within-requires : tie.Need-answer-within-requires
 answer-within-requires c κs = search needs
@@ -57,7 +50,22 @@ same-length-4 : tie.Need-same-length-4
 same-length-4 c = search needs
 
 returns : tie.Need-returns
-returns c = (section-read (c .before .before .before .before .before .before .before .before .before .before .before .before .before .before .before .before .before .before .before .before .before .before .before .before .args .s .now) _ _ _ _ (judged (c .before .before .before .before .before .before .before .before .before .before .before .before .before .before .before)) (c .before .before .before .before .before .before .before .before .before .before .before .before .before .enum-told .given .1) (c .before .before .before .before .before .before .before .before .read .ensures .0), c .before .before .before .before .before .before .before .before .read .ensures .1)
+returns c =
+    let d = c .before .before .before .before .before .before .before .before .before .before .before .before .before .before .before in
+    let read-so = c .before .before .before .before .before .before .before .before .read .ensures in
+    (section-read (start d .args .s .now) _ _ _ _ (judged d) (c .before .before .before .before .before .before .before .before .before .before .before .before .before .enum-told .given .1) (read-so .0), read-so .1)
+
+same-length-5 : tie.Need-same-length-5
+same-length-5 c = search needs
+
+same-length-6 : tie.Need-same-length-6
+same-length-6 c = search needs
+
+same-length-7 : tie.Need-same-length-7
+same-length-7 c = search needs
+
+same-length-8 : tie.Need-same-length-8
+same-length-8 c = search needs
 
 returns-2 : tie.Need-returns-2
 returns-2 c = (sym (c .before .r .given .1) ∙ judged (c .before .before .before), untouched _ _ _ _)
@@ -66,9 +74,7 @@ pub read-section-spec : {M : Type 1} → statement M
 read-section-spec =
     tie.close
     (tie.spec
-    lesser-requires
-    lesser-requires-2
-    lesser-requires-3
+    room-requires
     answer-within-requires
     enum-told
     read-requires
@@ -78,4 +84,8 @@ read-section-spec =
     same-length-3
     same-length-4
     returns
+    same-length-5
+    same-length-6
+    same-length-7
+    same-length-8
     returns-2)

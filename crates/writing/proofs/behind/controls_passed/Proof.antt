@@ -17,7 +17,7 @@ add-result : tie.Need-add-result
 add-result c = search needs
 
 returns : tie.Need-returns
-returns c = passed-control _ _ _ _ (c .before .before .before .stands-to .ensures) (c .before .enum-told .given .1) (c .if1 .taken)
+returns c = passed-control _ _ _ _ (c .before .before .before .before .stands-to .ensures) (c .before .before .enum-told .given .1) (c .before .if1 .taken)
 
 enum-told-2 : tie.Need-enum-told-2
 enum-told-2 c = search needs

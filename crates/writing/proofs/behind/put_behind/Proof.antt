@@ -15,14 +15,14 @@ use Rattle.writing.proofs.behind.put_behind.Lts as lts
 use Rattle.records.proofs.first.Reads as first-reads
 use Rattle.writing.proofs.behind.controls_passed.Reads as controls-passed-reads
 use Rattle.writing.proofs.behind.put_below.Reads as put-below-reads
-use Rattle.writing.proofs.put.part.Reads as part-reads
+use Rattle.numbers.proofs.part.Reads as part-reads
 use Rattle.writing.proofs.put.put_part.Reads as put-part-reads
 
 abbrev Inv-loop : tie.InvT-loop
-Inv-loop out₀ at s from n ordinal a b value place₀ p₀ nth₀ out place p nth = Behind out₀ at (fieldOf ordinal a b) value n s from place p nth out
+Inv-loop out₀ at s from n spot value place₀ p₀ nth₀ out place p nth = Behind out₀ at (fieldOf (spot .ordinal) (spot .a) (spot .b)) value n s from place p nth out
 
 abbrev μ-loop : tie.MeasureT-loop
-μ-loop out₀ at s from n ordinal a b value place₀ p₀ nth₀ out place p nth = length s - place
+μ-loop out₀ at s from n spot value place₀ p₀ nth₀ out place p nth = length s - place
 
 -- at a record: the loop's head, and what is known of the header
 abbrev head : tie.After-struct-known Inv-loop μ-loop → tie.At-loop Inv-loop μ-loop

@@ -25,7 +25,7 @@ same-length : tie.Need-same-length
 same-length c = search needs
 
 returns : tie.Need-returns
-returns c = puts-as (below-owned (fieldOf (c .before .before .before .before .before .before .before .before .before .before .args .ordinal) (c .before .before .before .before .before .before .before .before .before .before .args .a) (c .before .before .before .before .before .before .before .before .before .before .args .b)) (c .before .before .before .before .before .before .before .before .before .before .args .value .now) (c .before .before .before .before .before .before .before .before .before .before .args .n) (c .before .before .before .before .before .before .before .before .before .before .args .nth) (c .before .before .before .before .before .before .before .before .before .before .args .tag) (c .before .before .before .before .before .before .before .before .before .before .args .level) (c .before .before .before .before .before .before .before .before .before .before .args .body .now) (c .before .before .before .before .before .before .stands-to .ensures) (c .before .before .before .before .enum-told .given .1)) (c .before .before .put-child .ensures)
+returns c = let a = c .before .before .before .before .before .before .before .before .before .before .args in puts-as (below-owned (fieldOf (a .spot .ordinal) (a .spot .a) (a .spot .b)) (a .value .now) (a .children .n) (a .children .nth) (a .h .tag) (a .h .level) (a .body .now) (c .before .before .before .before .before .before .stands-to .ensures) (c .before .before .before .before .enum-told .given .1)) (c .before .before .put-child .ensures)
 
 enum-told-2 : tie.Need-enum-told-2
 enum-told-2 c = search needs
@@ -40,7 +40,9 @@ same-length-2 : tie.Need-same-length-2
 same-length-2 c = search needs
 
 returns-2 : tie.Need-returns-2
-returns-2 c = puts-as (⊎-elim (λ w. below-beyond (fieldOf (c .before .before .before .before .before .before .before .before .before .args .ordinal) (c .before .before .before .before .before .before .before .before .before .args .a) (c .before .before .before .before .before .before .before .before .before .args .b)) (c .before .before .before .before .before .before .before .before .before .args .value .now) (c .before .before .before .before .before .before .before .before .before .args .n) (c .before .before .before .before .before .before .before .before .before .args .nth) (c .before .before .before .before .before .before .before .before .before .args .tag) (c .before .before .before .before .before .before .before .before .before .args .level) (c .before .before .before .before .before .before .before .before .before .args .body .now) (c .before .before .before .before .before .stands-to .ensures) (w .1 .given .1)) (λ w. below-passed (fieldOf (c .before .before .before .before .before .before .before .before .before .args .ordinal) (c .before .before .before .before .before .before .before .before .before .args .a) (c .before .before .before .before .before .before .before .before .before .args .b)) (c .before .before .before .before .before .before .before .before .before .args .value .now) (c .before .before .before .before .before .before .before .before .before .args .n) (c .before .before .before .before .before .before .before .before .before .args .nth) (c .before .before .before .before .before .before .before .before .before .args .tag) (c .before .before .before .before .before .before .before .before .before .args .level) (c .before .before .before .before .before .before .before .before .before .args .body .now) (c .before .before .before .before .before .stands-to .ensures) (w .1 .given .1)) (c .before .before .before .before .match .came)) (c .before .before .put-same .ensures)
+returns-2 c = let a = c .before .before .before .before .before .before .before .before .before .args in
+    puts-as (⊎-elim (λ w. below-beyond (fieldOf (a .spot .ordinal) (a .spot .a) (a .spot .b)) (a .value .now) (a .children .n) (a .children .nth) (a .h .tag) (a .h .level) (a .body .now) (c .before .before .before .before .before .stands-to .ensures) (w .1 .given .1))
+    (λ w. below-passed (fieldOf (a .spot .ordinal) (a .spot .a) (a .spot .b)) (a .value .now) (a .children .n) (a .children .nth) (a .h .tag) (a .h .level) (a .body .now) (c .before .before .before .before .before .stands-to .ensures) (w .1 .given .1)) (c .before .before .before .before .match .came)) (c .before .before .put-same .ensures)
 
 pub put-below-spec : {M : Type 1} → statement M
 put-below-spec =

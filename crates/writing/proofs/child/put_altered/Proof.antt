@@ -11,7 +11,7 @@ use Rattle.writing.proofs.child.put_altered.Lts as lts
 use Rattle.filling.proofs.with_bit_15.Reads as with-bit-15-reads
 use Rattle.numbers.proofs.number32.Reads as number32-reads
 use Rattle.writing.proofs.child.least.Reads as least-reads
-use Rattle.writing.proofs.put.part.Reads as part-reads
+use Rattle.numbers.proofs.part.Reads as part-reads
 use Rattle.writing.proofs.put.put_head.Reads as put-head-reads
 use Rattle.writing.proofs.put.put_low.Reads as put-low-reads
 use Rattle.writing.proofs.put.put_part.Reads as put-part-reads

@@ -20,7 +20,7 @@ same-length : tie.Need-same-length
 same-length c = search needs
 
 returns : tie.Need-returns
-returns c = puts-as (child-text (c .before .before .before .before .before .before .before .before .args .ordinal) (c .before .before .before .before .before .before .before .before .args .a) (c .before .before .before .before .before .before .before .before .args .b) (c .before .before .before .before .before .before .before .before .args .nth) (c .before .before .before .before .before .before .before .before .args .tag) (c .before .before .before .before .before .before .before .before .args .level) (c .before .before .before .before .before .before .before .before .args .value .now) (c .before .before .before .before .before .before .before .before .args .body .now) (c .before .before .before .before .if1 .taken)) (c .before .before .put-text .ensures)
+returns c = let a = c .before .before .before .before .before .before .before .before .args in puts-as (child-text (a .spot .ordinal) (a .spot .a) (a .spot .b) (a .nth) (a .h .tag) (a .h .level) (a .value .now) (a .body .now) (c .before .before .before .before .if1 .taken)) (c .before .before .put-text .ensures)
 
 put-shapes-requires : tie.Need-put-shapes-requires
 put-shapes-requires c κs = search needs
@@ -29,10 +29,10 @@ same-length-2 : tie.Need-same-length-2
 same-length-2 c = search needs
 
 returns-2 : tie.Need-returns-2
-returns-2 c = puts-as (child-shapes (c .before .before .before .before .before .before .before .before .before .args .ordinal) (c .before .before .before .before .before .before .before .before .before .args .a) (c .before .before .before .before .before .before .before .before .before .args .b) (c .before .before .before .before .before .before .before .before .before .args .nth) (c .before .before .before .before .before .before .before .before .before .args .tag) (c .before .before .before .before .before .before .before .before .before .args .level) (c .before .before .before .before .before .before .before .before .before .args .value .now) (c .before .before .before .before .before .before .before .before .before .args .body .now) (c .before .before .before .before .if2 .taken)) (c .before .before .put-shapes .ensures)
+returns-2 c = let a = c .before .before .before .before .before .before .before .before .before .args in puts-as (child-shapes (a .spot .ordinal) (a .spot .a) (a .spot .b) (a .nth) (a .h .tag) (a .h .level) (a .value .now) (a .body .now) (c .before .before .before .before .if2 .taken)) (c .before .before .put-shapes .ensures)
 
 returns-3 : tie.Need-returns-3
-returns-3 c = puts-as (child-layout (c .before .before .before .before .before .before .args .ordinal) (c .before .before .before .before .before .before .args .a) (c .before .before .before .before .before .before .args .b) (c .before .before .before .before .before .before .args .nth) (c .before .before .before .before .before .before .args .tag) (c .before .before .before .before .before .before .args .level) (c .before .before .before .before .before .before .args .value .now) (c .before .before .before .before .before .before .args .body .now) (c .if3 .taken)) (puts-none _ _ (omega arith) (omega arith))
+returns-3 c = let a = c .before .before .before .before .before .before .args in puts-as (child-layout (a .spot .ordinal) (a .spot .a) (a .spot .b) (a .nth) (a .h .tag) (a .h .level) (a .value .now) (a .body .now) (c .if3 .taken)) (puts-none _ _ (omega arith) (omega arith))
 
 put-altered-requires : tie.Need-put-altered-requires
 put-altered-requires c κs = search needs
@@ -41,7 +41,7 @@ same-length-3 : tie.Need-same-length-3
 same-length-3 c = search needs
 
 returns-4 : tie.Need-returns-4
-returns-4 c = puts-as (child-altered (c .before .before .before .before .before .before .before .before .before .before .before .before .args .ordinal) (c .before .before .before .before .before .before .before .before .before .before .before .before .args .a) (c .before .before .before .before .before .before .before .before .before .before .before .before .args .b) (c .before .before .before .before .before .before .before .before .before .before .before .before .args .nth) (c .before .before .before .before .before .before .before .before .before .before .before .before .args .tag) (c .before .before .before .before .before .before .before .before .before .before .before .before .args .level) (c .before .before .before .before .before .before .before .before .before .before .before .before .args .value .now) (c .before .before .before .before .before .before .before .before .before .before .before .before .args .body .now) (c .before .before .before .before .before .if4 .taken) (c .before .before .before .before .if5 .taken)) (c .before .before .put-altered .ensures)
+returns-4 c = let a = c .before .before .before .before .before .before .before .before .before .before .before .before .args in puts-as (child-altered (a .spot .ordinal) (a .spot .a) (a .spot .b) (a .nth) (a .h .tag) (a .h .level) (a .value .now) (a .body .now) (c .before .before .before .before .before .if4 .taken) (c .before .before .before .before .if5 .taken)) (c .before .before .put-altered .ensures)
 
 put-same-requires : tie.Need-put-same-requires
 put-same-requires c κs = search needs
@@ -50,7 +50,9 @@ same-length-4 : tie.Need-same-length-4
 same-length-4 c = search needs
 
 returns-5 : tie.Need-returns-5
-returns-5 c = puts-as (⊎-elim (λ w. child-control (c .before .before .before .before .before .before .before .before .before .before .before .args .ordinal) (c .before .before .before .before .before .before .before .before .before .before .before .args .a) (c .before .before .before .before .before .before .before .before .before .before .before .args .b) (c .before .before .before .before .before .before .before .before .before .before .before .args .nth) (c .before .before .before .before .before .before .before .before .before .before .before .args .tag) (c .before .before .before .before .before .before .before .before .before .before .before .args .level) (c .before .before .before .before .before .before .before .before .before .before .before .args .value .now) (c .before .before .before .before .before .before .before .before .before .before .before .args .body .now) (w .0 .taken) (w .1 .left)) (λ w. child-other (c .before .before .before .before .before .before .before .before .before .before .before .args .ordinal) (c .before .before .before .before .before .before .before .before .before .before .before .args .a) (c .before .before .before .before .before .before .before .before .before .before .before .args .b) (c .before .before .before .before .before .before .before .before .before .before .before .args .nth) (c .before .before .before .before .before .before .before .before .before .before .before .args .tag) (c .before .before .before .before .before .before .before .before .before .before .before .args .level) (c .before .before .before .before .before .before .before .before .before .before .before .args .value .now) (c .before .before .before .before .before .before .before .before .before .before .before .args .body .now) (c .before .before .before .before .before .before .before .if1 .left) (c .before .before .before .before .before .before .if2 .left) (c .before .before .before .before .before .if3 .left) (w .left)) (c .before .before .before .before .if4 .came)) (c .before .before .put-same .ensures)
+returns-5 c = let a = c .before .before .before .before .before .before .before .before .before .before .before .args in
+    puts-as (⊎-elim (λ w. child-control (a .spot .ordinal) (a .spot .a) (a .spot .b) (a .nth) (a .h .tag) (a .h .level) (a .value .now) (a .body .now) (w .0 .taken) (w .1 .left))
+    (λ w. child-other (a .spot .ordinal) (a .spot .a) (a .spot .b) (a .nth) (a .h .tag) (a .h .level) (a .value .now) (a .body .now) (c .before .before .before .before .before .before .before .if1 .left) (c .before .before .before .before .before .before .if2 .left) (c .before .before .before .before .before .if3 .left) (w .left)) (c .before .before .before .before .if4 .came)) (c .before .before .put-same .ensures)
 
 pub put-child-spec : {M : Type 1} → statement M
 put-child-spec =

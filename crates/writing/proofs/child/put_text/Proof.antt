@@ -42,8 +42,9 @@ same-length : tie.Need-same-length
 same-length c = search needs
 
 returns : tie.Need-returns
-returns c = puts-record _ _ (text-length (c .before .before .before .before .before .before .before .before .before .before .before .before .before .before .before .before .before .before .before .before .before .args .a) (c .before .before .before .before .before .before .before .before .before .before .before .before .before .before .before .before .before .before .before .before .before .args .b) _ _ (c .before .before .before .before .before .before .before .before .before .before .before .before .before .before .before .before .before .byte-of .ensures) (c .before .before .before .before .before .before .before .before .before .before .before .before .before .before .before .before .byte-of2 .ensures)) (c .before .before .before .before .before .before .before .before .before .before .before .before .before .before .put-head .ensures)
-    (puts-as (text-bytes (c .before .before .before .before .before .before .before .before .before .before .before .before .before .before .before .before .before .before .before .before .before .args .a) (c .before .before .before .before .before .before .before .before .before .before .before .before .before .before .before .before .before .before .before .before .before .args .b) _ _ (c .before .before .before .before .before .before .before .before .before .before .before .before .before .before .before .before .before .byte-of .ensures) (c .before .before .before .before .before .before .before .before .before .before .before .before .before .before .before .before .byte-of2 .ensures)) (puts-then (c .before .before .before .before .before .before .before .before .before .before .put-part .ensures) (puts-then (c .before .before .before .before .before .before .put-run .ensures) (c .before .before .put-part2 .ensures))))
+returns c = let p = c .before .before .before .before .before .before .before .before .before .before .before .before .before .before .before .before .before .before .before .before .before .args .spot in
+    puts-record _ _ (text-length (p .a) (p .b) _ _ (c .before .before .before .before .before .before .before .before .before .before .before .before .before .before .before .before .before .byte-of .ensures) (c .before .before .before .before .before .before .before .before .before .before .before .before .before .before .before .before .byte-of2 .ensures)) (c .before .before .before .before .before .before .before .before .before .before .before .before .before .before .put-head .ensures)
+    (puts-as (text-bytes (p .a) (p .b) _ _ (c .before .before .before .before .before .before .before .before .before .before .before .before .before .before .before .before .before .byte-of .ensures) (c .before .before .before .before .before .before .before .before .before .before .before .before .before .before .before .before .byte-of2 .ensures)) (puts-then (c .before .before .before .before .before .before .before .before .before .before .put-part .ensures) (puts-then (c .before .before .before .before .before .before .put-run .ensures) (c .before .before .put-part2 .ensures))))
 
 pub put-text-spec : {M : Type 1} → statement M
 put-text-spec =

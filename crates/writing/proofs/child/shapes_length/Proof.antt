@@ -15,7 +15,7 @@ put-entries-requires : tie.Need-put-entries-requires
 put-entries-requires c κs = search needs
 
 returns : tie.Need-returns
-returns c = shapes-measured (c .before .before .before .before .args .a) (c .before .before .before .before .args .b) (c .before .before .before .before .args .v) _ (omega arith) (c .before .put-entries .ensures)
+returns c = let k = c .before .before .before .before .args .change in shapes-measured (k .a) (k .b) (k .v) _ (omega arith) (c .before .put-entries .ensures)
 
 pub shapes-length-spec : {M : Type 1} → statement M
 shapes-length-spec = tie.close (tie.spec slice-aggregate-put-entries put-entries-requires returns)

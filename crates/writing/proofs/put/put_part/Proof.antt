@@ -5,7 +5,7 @@ use Rattle.writing.proofs.put.put_part.Statement.{statement}
 use Rattle.writing.proofs.put.put_part.Tie as tie
 use Rattle.writing.proofs.put.put_part.Reads as reads
 use Rattle.writing.proofs.put.put_part.Lts as lts
-use Rattle.writing.proofs.put.part.Reads as part-reads
+use Rattle.numbers.proofs.part.Reads as part-reads
 use Rattle.writing.proofs.put.put_run.Reads as put-run-reads
 
 part-requires : tie.Need-part-requires

@@ -8,7 +8,7 @@ use Rattle.writing.proofs.put.put_run.Reads as reads
 use Rattle.writing.proofs.put.put_run.Lts as lts
 use Rattle.numbers.proofs.put_all.Reads as put-all-reads
 use Rattle.writing.proofs.put.ahead.Reads as ahead-reads
-use Rattle.writing.proofs.put.part.Reads as part-reads
+use Rattle.numbers.proofs.part.Reads as part-reads
 
 ahead-requires : tie.Need-ahead-requires
 ahead-requires c κs = search needs

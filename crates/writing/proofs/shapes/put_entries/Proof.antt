@@ -10,10 +10,10 @@ use Rattle.writing.proofs.shapes.put_entries.Lts as lts
 use Rattle.writing.proofs.shapes.put_kept.Reads as put-kept-reads
 
 abbrev Inv-loop : tie.InvT-loop
-Inv-loop out₀ at body a b v n i₀ p₀ out i p = Keeping out₀ at body a b v n i p out
+Inv-loop out₀ at body change n i₀ p₀ out i p = Keeping out₀ at body (change .a) (change .b) (change .v) n i p out
 
 abbrev μ-loop : tie.MeasureT-loop
-μ-loop out₀ at body a b v n i₀ p₀ out i p = n - i
+μ-loop out₀ at body change n i₀ p₀ out i p = n - i
 
 loop-holds : tie.Need-loop-holds Inv-loop μ-loop
 loop-holds c = keeping-start _ _ _ _ _ _ (omega arith) (omega arith)

@@ -20,7 +20,7 @@ shapes-length-requires : tie.Need-shapes-length-requires
 shapes-length-requires c κs = search needs
 
 returns : tie.Need-returns
-returns c = let a = c .before .before .before .before .args in shapes-counted (a .s .now) (slice-bytes (a .s .now) (c .before .before .before .shared-slice-known .given)) (a .n) (a .behind) (a .a) (a .b) (a .v) (c .before .before .find .ensures) (c .before .bytes .ensures) (c .shapes-length .ensures)
+returns c = let a = c .before .before .before .before .args in shapes-counted (a .s .now) (slice-bytes (a .s .now) (c .before .before .before .shared-slice-known .given)) (a .n) (a .behind) (a .change .a) (a .change .b) (a .change .v) (c .before .before .find .ensures) (c .before .bytes .ensures) (c .shapes-length .ensures)
 
 pub count-shapes-spec : {M : Type 1} → statement M
 count-shapes-spec =

@@ -1,11 +1,11 @@
 -- A part that may reach past the end. Assumes nothing.
 use native.Mathlib.Omega.{arith}
-use Rattle.paragraph.proofs.BodyLaws.{clip-none, clip-rest, clip-whole}
+use Rattle.numbers.proofs.LittleLaws.{clip-none, clip-rest, clip-whole}
 use borrow.Author.Needs.{needs}
-use Rattle.writing.proofs.put.part.Statement.{statement}
-use Rattle.writing.proofs.put.part.Tie as tie
-use Rattle.writing.proofs.put.part.Reads as reads
-use Rattle.writing.proofs.put.part.Lts as lts
+use Rattle.numbers.proofs.part.Statement.{statement}
+use Rattle.numbers.proofs.part.Tie as tie
+use Rattle.numbers.proofs.part.Reads as reads
+use Rattle.numbers.proofs.part.Lts as lts
 
 sub-result : tie.Need-sub-result
 sub-result c = search needs
