@@ -1,8 +1,10 @@
 -- What the walk's calls promise leaves no choice: two results that a promise allows are equal. Assumes nothing.
-use Prim.Native.Nat.{ℕ}
+use Prim.Native.Nat.{ℕ, _+_}
 use mathlib.Core.Path.{_≡_, sym, _∙_}
 use mathlib.Core.List.{List}
+use lib.ListN.{drop}
 use Rattle.text.specs.Units.{units}
+use Rattle.text.specs.Walk.{run}
 use Rattle.text.specs.Answers.{cursor, stepAt, judged}
 use Rattle.text.specs.declared.Cursor.{Cursor}
 use Rattle.text.specs.declared.Step.{Step}
@@ -18,6 +20,10 @@ start-determined = only
 module _ (text : List ℕ) where
   pub step-determined : (self : Cursor) {r₁ r₂ : Step} → r₁ ≡ stepAt (units text) (self .at .0) → r₂ ≡ stepAt (units text) (self .at .0) → r₁ ≡ r₂
   step-determined self = only
+
+  pub past-determined : (self : Cursor) {r₁ r₂ : Cursor}
+      → r₁ ≡ cursor (self .at .0 + run (drop (self .at .0) (units text))) → r₂ ≡ cursor (self .at .0 + run (drop (self .at .0) (units text))) → r₁ ≡ r₂
+  past-determined self = only
 
   pub judge-determined : {r₁ r₂ : Judged} → r₁ ≡ judged (units text) → r₂ ≡ judged (units text) → r₁ ≡ r₂
   judge-determined = only
