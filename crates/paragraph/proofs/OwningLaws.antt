@@ -76,9 +76,6 @@ module _ (s : List ℕ) (bs : Bytes s) (n : ℕ) where
       }
 
   module _ (at : ℕ) (r : Rec) (rs : List Rec) (d : Stood s at r) where
-    abbrev next : ℕ
-    next = at + size r
-
     -- r is no control header of this paragraph
     passing : (k : ℕ) → headers s n at ≡ headers s n (at + size r) → ((j : ℕ) → foundIn n 71 j at (recordsIn (drop at s)) ≡ foundIn n 71 j (at + size r) (recordsIn (drop (at + size r) s)))
         → (f : Found) → OwningIf s n k (at + size r) f → OwningIf s n k at f

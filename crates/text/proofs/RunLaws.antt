@@ -63,9 +63,6 @@ ran p (u ∷ v ∷ us) = go (ltb u 32) refl (ran (p + 1) (v ∷ us))
 -- ---- by positions of the whole text
 
 module _ (us : List ℕ) (p : ℕ) where
-  abbrev q : ℕ
-  q = p + run (drop p us)
-
   behind : drop (run (drop p us)) (drop p us) ≡ drop (p + run (drop p us)) us
   behind = drop-drop (run (drop p us)) p us
 
