@@ -2,23 +2,29 @@
 use Prim.Native.Nat.{ℕ, zero, suc, _+_, _-_, _*_, _/_, _%_, _≤_, _<_}
 use native.Mathlib.Omega.{arith}
 use native.Mathlib.Decide.{decLe}
-use native.Mathlib.Nat.{lt-of-not-le}
+use native.Mathlib.Nat.{lt-of-not-le, add-assoc}
 use mathlib.Core.Path.{_≡_, refl, sym, ap, ap₂, _∙_, subst}
+use mathlib.Core.Logic.{inl, inr}
 use mathlib.Core.Bool.{Bool, true, false, cond, not}
 use mathlib.Core.Option.{Option, none, some}
 use mathlib.Core.List.{List, [], _∷_, _++_, append-assoc, append-nil}
 use lib.Dec.{T, ltb, eqb, nltb→le, eqb→eq, T-not, eqb-refl}
 use lib.ListN.{length, getD, take, drop, length-append, length-drop, take-append-drop}
 use lib.Seq.{take-at, drop-at, take-add, drop-drop, getD-take, getD-drop}
-use borrow.Author.Tests.{lt-ltb, le-ltb, eq-eqb, ne-eqb}
+use borrow.Author.Tests.{ltb-true, ltb-false, lt-ltb, le-ltb, eq-eqb, ne-eqb}
 use Rattle.numbers.specs.Little.{little, bytesOf, Bytes, span}
 use Rattle.numbers.proofs.LittleLaws.{bytes-drop, little-small, length-bytesOf, little-bytesOf, bytesOf-little, part-rest}
 use Rattle.records.specs.Records.{Rec, headerWord, leadOf, headerOf, encodeOne, encode, size, Obeys, Lawful, Encodes}
-use Rattle.records.specs.Reading.{Stands, whole, fault, guard, bodyAt, longAt, wordAt, standsAt, frontOf, Read, onto, readFrom, readAll}
+use Rattle.records.specs.Reading.{Stands, whole, fault, guard, bodyAt, longAt, wordAt, standsAt, frontOf, offset, recordAt, aheadBy, aheadOf, Read, onto, readFrom, readAll}
 use Rattle.records.specs.declared.fault.Fault.{Fault}
 use Rattle.records.specs.declared.header.Header.{Header}
-use Rattle.records.specs.declared.header.Front.{Front}
 use Rattle.records.specs.declared.header.Front.the-variants as H
+use Rattle.records.specs.declared.header.Record.{Record}
+use Rattle.records.specs.declared.header.Ahead.{Ahead}
+use Rattle.records.specs.declared.header.Ahead.the-variants as N
+use denote.Enum.Declared.{tagOf}
+use types.Run.{OneOf}
+use Rattle.records.proofs.header.Ahead as ahead
 use Rattle.records.proofs.HeaderLaws.{lead-short, lead-long, lead-bounds, length-part}
 
 -- ---- the 32 bits of a header
@@ -371,66 +377,124 @@ prefix-within (suc n) cap s h bs =
 pub read-prefix : (cap : ℕ) (s : List ℕ) → Bytes s → length (encode (readFrom cap 0 s .recs)) ≤ length s
 read-prefix cap s bs = prefix-within (length s) cap s (omega arith) bs
 
--- ---- a pass over a stream: what is known where a header was read at `at`
+-- ---- a header that was read from the part behind `at`
 
--- a header's numbers, 0 of a refusal
-abbrev numbers : (Header → ℕ) → Front → ℕ
-numbers f (H.Record h) = f h
-numbers f (H.Refused r) = 0
+module _ (s : List ℕ) (at cap : ℕ) (h : at < length s) where
+  -- the record that it is
+  front-by : (a : Stands) (k : Header) → standsAt cap (drop at s) ≡ a → frontOf a ≡ H.Record k
+      → N.Record (record { at = offset at; tag = k .tag; level = k .level; body = offset (at + k .lead); length = k .length; next = offset (at + k .lead + k .length) })
+      ≡ aheadBy at (standsAt cap (drop at s))
+  unfolding size
+  front-by (fault f) k q e = absurd (let z : _≡_ {A = ℕ} 0 1 = cc in omega arith)
+  front-by (whole r) k q e =
+      let same : record { tag = r .tag; level = r .level; lead = leadOf (length (r .body)); length = length (r .body) } ≡ k = cc in
+      rw (q, ← same) (ap (λ (i : ℕ). N.Record (record { at = offset at; tag = r .tag; level = r .level; body = offset (at + leadOf (length (r .body))); length = length (r .body); next = offset i })) (add-assoc at _ _))
 
-pub record Here (s : List ℕ) (at cap : ℕ) (h : Header) : Type 0 where
+  pub ahead-record : (k : Header) → frontOf (standsAt cap (take (length s - at) (drop at s))) ≡ H.Record k
+      → N.Record (record { at = offset at; tag = k .tag; level = k .level; body = offset (at + k .lead); length = k .length; next = offset (at + k .lead + k .length) })
+      ≡ aheadOf cap s at
+  unfolding aheadOf
+  ahead-record k e =
+      rw (lt-ltb at (length s) h)
+      (front-by (standsAt cap (drop at s)) k refl (ap (λ (l : List ℕ). frontOf (standsAt cap l)) (sym (part-rest s at)) ∙ e))
+
+  refused-by : (a : Stands) (f : Fault) → frontOf a ≡ H.Refused f → N.Refused f ≡ aheadBy at a
+  refused-by (fault g) f e = cc
+  refused-by (whole r) f e = absurd (let z : _≡_ {A = ℕ} 0 1 = cc in omega arith)
+
+  pub ahead-refused : (f : Fault) → frontOf (standsAt cap (take (length s - at) (drop at s))) ≡ H.Refused f → N.Refused f ≡ aheadOf cap s at
+  unfolding aheadOf
+  ahead-refused f e =
+      rw (lt-ltb at (length s) h)
+      (refused-by (standsAt cap (drop at s)) f (ap (λ (l : List ℕ). frontOf (standsAt cap l)) (sym (part-rest s at)) ∙ e))
+
+pub ahead-end : (s : List ℕ) (at cap : ℕ) → length s ≤ at → N.End ≡ aheadOf cap s at
+unfolding aheadOf
+ahead-end s at cap h = rw (le-ltb at (length s) h)
+
+-- ---- a step over the records: what is known where it found one at `at`
+
+pub record Here (s : List ℕ) (at cap : ℕ) (r : Record) : Type 0 where
   pub rec : Rec
-  pub stands : standsAt cap (drop at s) ≡ whole rec
-  pub tag-is : h .tag ≡ rec .tag
-  pub level-is : h .level ≡ rec .level
-  pub lead-is : h .lead ≡ leadOf (length (rec .body))
-  pub length-is : h .length ≡ length (rec .body)
-  pub size-is : h .lead + h .length ≡ size rec
+  pub is : r ≡ recordAt at rec
+  pub tag-is : r .tag ≡ rec .tag
+  pub level-is : r .level ≡ rec .level
+  pub body-is : r .body .0 ≡ at + leadOf (length (rec .body))
+  pub length-is : r .length ≡ length (rec .body)
+  pub next-is : r .next .0 ≡ at + size rec
+  pub body-end : r .body .0 + r .length ≡ r .next .0
   pub size-low : 4 ≤ size rec
+  pub left : at < length s
+  pub stands : standsAt cap (drop at s) ≡ whole rec
   pub obeys : Obeys cap rec
   pub inside : at + size rec ≤ length s
   pub bytes : encodeOne rec ≡ take (size rec) (drop at s)
   pub next : readFrom cap 0 (drop at s) ≡ onto rec (readFrom (rec .level + 1) 0 (drop (at + size rec) s))
 
-module _ (s : List ℕ) (at cap : ℕ) (bs : Bytes s) (h : at < length s) where
-  some-left : 0 < length (drop at s)
-  some-left = omega (arith, length-drop at s)
+module _ (s : List ℕ) (at cap : ℕ) where
+  some-left : at < length s → 0 < length (drop at s)
+  some-left h = omega (arith, length-drop at s)
 
-  here-by : (a : Stands) (k : Header) → standsAt cap (drop at s) ≡ a → frontOf a ≡ H.Record k → Here s at cap k
-  unfolding size
-  here-by (fault f) k q e = absurd (let z : _≡_ {A = ℕ} 0 1 = cc in omega arith)
-  here-by (whole r) k q e =
-      let d = found cap (drop at s) (bytes-drop at s bs) r q in
-      let t : k .tag ≡ r .tag = sym (ap (numbers (λ h. h .tag)) e) in
-      let l : k .level ≡ r .level = sym (ap (numbers (λ h. h .level)) e) in
-      let m : k .lead ≡ leadOf (length (r .body)) = sym (ap (numbers (λ h. h .lead)) e) in
-      let n : k .length ≡ length (r .body) = sym (ap (numbers (λ h. h .length)) e) in
-      record {
-        rec = r;
-        stands = q;
-        tag-is = t;
-        level-is = l;
-        lead-is = m;
-        length-is = n;
-        size-is = omega arith;
-        size-low = omega (arith, lead-bounds (length (r .body)));
-        obeys = d .obeys;
-        inside = omega (arith, d .inside, length-drop at s);
-        bytes = d .bytes;
-        next = read-next cap (drop at s) r some-left q ∙ ap (λ (l : List ℕ). onto r (readFrom (r .level + 1) 0 l)) (drop-drop (size r) at s);
-      }
+  module _ (bs : Bytes s) where
+    here-by : (b : Bool) (a : Stands) (r : Record) → ltb at (length s) ≡ b → standsAt cap (drop at s) ≡ a → cond b (aheadBy at a) N.End ≡ N.Record r → Here s at cap r
+    unfolding size
+    here-by false a r t q e = absurd (let z : _≡_ {A = ℕ} 0 1 = cc in omega arith)
+    here-by true (fault f) r t q e = absurd (let z : _≡_ {A = ℕ} 0 1 = cc in omega arith)
+    here-by true (whole k) r t q e =
+        let h = ltb-true at (length s) t in
+        let d = found cap (drop at s) (bytes-drop at s bs) k q in
+        let i : recordAt at k ≡ r = cc in
+        rw (← i)
+        (record {
+          rec = k;
+          is = refl;
+          tag-is = refl;
+          level-is = refl;
+          body-is = refl;
+          length-is = refl;
+          next-is = refl;
+          body-end = omega arith;
+          size-low = omega (arith, lead-bounds (length (k .body)));
+          left = h;
+          stands = q;
+          obeys = d .obeys;
+          inside = omega (arith, d .inside, length-drop at s);
+          bytes = d .bytes;
+          next = read-next cap (drop at s) k (some-left h) q ∙ ap (λ (l : List ℕ). onto k (readFrom (k .level + 1) 0 l)) (drop-drop (size k) at s);
+        })
 
-  -- at a header that was read from the part behind `at`
-  pub here : (k : Header) → frontOf (standsAt cap (take (length s - at) (drop at s))) ≡ H.Record k → Here s at cap k
-  here k e = here-by (standsAt cap (drop at s)) k refl (ap (λ (l : List ℕ). frontOf (standsAt cap l)) (sym (part-rest s at)) ∙ e)
+    pub here : (r : Record) → aheadOf cap s at ≡ N.Record r → Here s at cap r
+    unfolding aheadOf
+    here r e = here-by (ltb at (length s)) (standsAt cap (drop at s)) r refl refl e
 
-  stop-by : (a : Stands) (f : Fault) → standsAt cap (drop at s) ≡ a → frontOf a ≡ H.Refused f → readFrom cap 0 (drop at s) ≡ record { recs = []; stop = some f }
-  stop-by (fault g) f q e = let same : g ≡ f = cc in read-stop cap (drop at s) g some-left q ∙ rw same
-  stop-by (whole r) f q e = absurd (let z : _≡_ {A = ℕ} 0 1 = cc in omega arith)
-
-  pub stops-here : (f : Fault) → frontOf (standsAt cap (take (length s - at) (drop at s))) ≡ H.Refused f
+  -- and where it found none
+  stops-by : (b : Bool) (a : Stands) (f : Fault) → ltb at (length s) ≡ b → standsAt cap (drop at s) ≡ a → cond b (aheadBy at a) N.End ≡ N.Refused f
       → readFrom cap 0 (drop at s) ≡ record { recs = []; stop = some f }
-  stops-here f e = stop-by (standsAt cap (drop at s)) f refl (ap (λ (l : List ℕ). frontOf (standsAt cap l)) (sym (part-rest s at)) ∙ e)
+  stops-by false a f t q e = absurd (let z : _≡_ {A = ℕ} 0 1 = cc in omega arith)
+  stops-by true (whole k) f t q e = absurd (let z : _≡_ {A = ℕ} 0 1 = cc in omega arith)
+  stops-by true (fault g) f t q e = let same : g ≡ f = cc in read-stop cap (drop at s) g (some-left (ltb-true at (length s) t)) q ∙ rw same
 
-pub ends-here : (s : List ℕ) (at cap : ℕ) → length s ≤ at → readFrom cap 0 (drop at s) ≡ record { recs = []; stop = none }
-ends-here s at cap h = read-end cap (drop at s) (omega (arith, length-drop at s))
+  pub stops-here : (f : Fault) → aheadOf cap s at ≡ N.Refused f → readFrom cap 0 (drop at s) ≡ record { recs = []; stop = some f }
+  unfolding aheadOf
+  stops-here f e = stops-by (ltb at (length s)) (standsAt cap (drop at s)) f refl refl e
+
+  ends-by : (b : Bool) (a : Stands) → ltb at (length s) ≡ b → cond b (aheadBy at a) N.End ≡ N.End → length s ≤ at
+  ends-by false a t e = ltb-false at (length s) t
+  ends-by true (whole k) t e = absurd (let z : _≡_ {A = ℕ} 0 1 = cc in omega arith)
+  ends-by true (fault f) t e = absurd (let z : _≡_ {A = ℕ} 0 1 = cc in omega arith)
+
+  pub at-end : aheadOf cap s at ≡ N.End → length s ≤ at
+  unfolding aheadOf
+  at-end e = ends-by (ltb at (length s)) (standsAt cap (drop at s)) refl e
+
+  pub ends-here : aheadOf cap s at ≡ N.End → readFrom cap 0 (drop at s) ≡ record { recs = []; stop = none }
+  ends-here e = read-end cap (drop at s) (omega (arith, length-drop at s, at-end e))
+
+-- a step that found no record, whichever way: as `let .. else` leaves it
+abbrev pub NoRecord : Ahead → Type 0
+NoRecord x = OneOf (1 ∷ 2 ∷ []) (tagOf ahead.the-type x)
+
+pub none-here : (s : List ℕ) (at cap : ℕ) (x : Ahead) → x ≡ aheadOf cap s at → NoRecord x → readFrom cap 0 (drop at s) .recs ≡ []
+none-here s at cap (N.Record r) e n = absurd (elim n [ inl z ↦ let y : _≡_ {A = ℕ} 0 1 = z in omega arith | inr z ↦ let y : _≡_ {A = ℕ} 0 2 = z in omega arith ])
+none-here s at cap (N.Refused f) e n = ap (λ (y : Read). y .recs) (stops-here s at cap f (sym e))
+none-here s at cap N.End e n = ap (λ (y : Read). y .recs) (ends-here s at cap (sym e))

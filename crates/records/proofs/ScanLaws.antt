@@ -18,7 +18,7 @@ use Rattle.records.specs.Table.{roomFor, stopped, answerOf, readAnswer}
 use Rattle.records.specs.declared.fault.Fault.{Fault}
 use Rattle.records.specs.declared.fault.Fault.the-variants as F
 use Rattle.records.specs.declared.fault.Answer.{Answer}
-use Rattle.records.specs.declared.header.Header.{Header}
+use Rattle.records.specs.declared.header.Record.{Record}
 use Rattle.records.specs.declared.fault.Answer.the-variants as A
 use Rattle.records.proofs.ReadingLaws.{length-encodeOne, size-least, read-prefix, Here}
 
@@ -105,19 +105,18 @@ pub record Scanning (s : List ℕ) (room at cap n over : ℕ) : Type 0 where
   pub rest : readAnswer s room ≡ answerFrom room n over at (readFrom cap 0 (drop at s))
 
 -- behind one more record
-pub scan-next : (s : List ℕ) (room at cap n over over′ : ℕ) (h : Header) → Scanning s room at cap n over → Here s at cap h
-    → over′ ≡ cond (eqb n room) at over → Scanning s room (at + h .lead + h .length) (h .level + 1) (n + 1) over′
-scan-next s room at cap n over over′ h k d e =
-    let to : at + h .lead + h .length ≡ at + size (d .rec) = omega (arith, d .size-is) in
+pub scan-next : (s : List ℕ) (room at cap n over over′ : ℕ) (r : Record) → Scanning s room at cap n over → Here s at cap r
+    → over′ ≡ cond (eqb n room) at over → Scanning s room (r .next .0) (r .level + 1) (n + 1) over′
+scan-next s room at cap n over over′ r k d e =
     record {
       small = k .small;
-      inside = omega (arith, d .inside);
-      count = omega (arith, k .count, size-least (d .rec));
+      inside = omega (arith, d .next-is, d .inside);
+      count = omega (arith, k .count, d .next-is, d .size-low);
       rest =
           k .rest
           ∙ ap (answerFrom room n over at) (d .next)
           ∙ answer-next room n over at (d .rec) (readFrom (d .rec .level + 1) 0 (drop (at + size (d .rec)) s))
-          ∙ rw (e, to, d .level-is);
+          ∙ rw (e, d .next-is, d .level-is);
     }
 
 -- ---- what an acceptance says

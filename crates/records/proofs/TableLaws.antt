@@ -11,7 +11,7 @@ use lib.Seq.{sets, sets-eq}
 use Rattle.records.specs.Records.{Rec, limit, leadOf, size}
 use Rattle.records.specs.Reading.{Read, onto, readFrom, readAll}
 use Rattle.records.specs.Table.{tagOf, levelOf, lengthOf, placesFrom, written, Table, shortest}
-use Rattle.records.specs.declared.header.Header.{Header}
+use Rattle.records.specs.declared.header.Record.{Record}
 use Rattle.records.proofs.ReadingLaws.{Here}
 
 -- ---- one list, where its column `all` is entered from the front: `left` are the values from index i on, l₀ the list as it came, l as it is
@@ -106,30 +106,27 @@ module _ (s t₀ l₀ p₀ n₀ : List ℕ) where
 
   module _ (t l p n : List ℕ) (at cap i : ℕ) (k : Passing s t₀ t l₀ l p₀ p n₀ n at cap i) where
     -- at a record the lists are those of the next one and the rest
-    at-record : (h : Header) (d : Here s at cap h)
+    at-record : (r : Record) (d : Here s at cap r)
         → Entering (readAll s .recs) (d .rec ∷ readFrom (d .rec .level + 1) 0 (drop (at + size (d .rec)) s) .recs) at i t₀ t l₀ l p₀ p n₀ n
     unfolding onto
-    at-record h d = rw (d .next) at (k .entering)
+    at-record r d = rw (d .next) at (k .entering)
 
-    pub pass-room : (h : Header) (d : Here s at cap h) → (i < length t) × (i < length l) × (i < length p) × (i < length n)
-    pass-room h d = enter-room _ _ _ _ _ _ _ _ _ _ _ _ _ (at-record h d)
+    pub pass-room : (r : Record) (d : Here s at cap r) → (i < length t) × (i < length l) × (i < length p) × (i < length n)
+    pass-room r d = enter-room _ _ _ _ _ _ _ _ _ _ _ _ _ (at-record r d)
 
-    pub pass-next : (h : Header) (d : Here s at cap h)
-        → Passing s t₀ (set t i (h .tag)) l₀ (set l i (h .level)) p₀ (set p i (at + h .lead)) n₀ (set n i (h .length)) (at + h .lead + h .length) (h .level + 1) (i + 1)
-    pass-next h d =
-        let e : at + h .lead + h .length ≡ at + size (d .rec) = omega (arith, d .size-is) in
+    pub pass-next : (r : Record) (d : Here s at cap r)
+        → Passing s t₀ (set t i (r .tag)) l₀ (set l i (r .level)) p₀ (set p i (r .body .0)) n₀ (set n i (r .length)) (r .next .0) (r .level + 1) (i + 1)
+    pass-next r d =
         record {
           small = k .small;
           roomy = k .roomy;
-          inside = omega (arith, d .inside);
-          entering = rw (e, d .tag-is, d .level-is, d .lead-is, d .length-is) (enter-next _ _ _ _ _ _ _ _ _ _ _ _ _ (at-record h d));
+          inside = omega (arith, d .next-is, d .inside);
+          entering = rw (d .next-is, d .tag-is, d .level-is, d .body-is, d .length-is) (enter-next _ _ _ _ _ _ _ _ _ _ _ _ _ (at-record r d));
         }
 
     -- where no record is left the table is entered
-    pub pass-end : (x : Read) → readFrom cap 0 (drop at s) ≡ x → x .recs ≡ [] → Table (readAll s .recs) t₀ t l₀ l p₀ p n₀ n
-    pass-end x e z =
-        let none-left : readFrom cap 0 (drop at s) .recs ≡ [] = ap (λ (y : Read). y .recs) e ∙ z in
-        enter-end _ _ _ _ _ at i _ _ _ _ (k .roomy) (rw none-left at (k .entering))
+    pub pass-end : readFrom cap 0 (drop at s) .recs ≡ [] → Table (readAll s .recs) t₀ t l₀ l p₀ p n₀ n
+    pass-end e = enter-end _ _ _ _ _ at i _ _ _ _ (k .roomy) (rw e at (k .entering))
 
 -- a refusal changes no entry
 pub untouched : (t l p n : List ℕ) → Table [] t t l l p p n n

@@ -9,8 +9,12 @@ use Rattle.numbers.specs.Little.{little}
 use Rattle.records.specs.Records.{Rec, leadOf, size}
 use Rattle.records.specs.declared.fault.Fault.{Fault}
 use Rattle.records.specs.declared.fault.Fault.the-variants as F
+use Rattle.records.specs.declared.fault.Offset.{Offset}
 use Rattle.records.specs.declared.header.Front.{Front}
 use Rattle.records.specs.declared.header.Front.the-variants as H
+use Rattle.records.specs.declared.header.Record.{Record}
+use Rattle.records.specs.declared.header.Ahead.{Ahead}
+use Rattle.records.specs.declared.header.Ahead.the-variants as N
 
 -- what stands at the front of a stream: a record, or a fault
 pub data Stands : Type 0 where
@@ -50,6 +54,31 @@ abbrev pub frontOf : Stands → Front
 frontOf (whole r) =
     H.Record (record { tag = r .tag; level = r .level; lead = leadOf (length (r .body)); length = length (r .body) })
 frontOf (fault f) = H.Refused f
+
+-- a byte place
+abbrev pub offset : ℕ → Offset
+offset p = record { 0 = p }
+
+-- the record r whose header stands at a place: its body is behind the header, the next record behind the body
+abbrev pub recordAt : ℕ → Rec → Record
+recordAt at r =
+    record {
+      at = offset at;
+      tag = r .tag;
+      level = r .level;
+      body = offset (at + leadOf (length (r .body)));
+      length = length (r .body);
+      next = offset (at + size r);
+    }
+
+-- what stands at a place
+abbrev pub aheadBy : ℕ → Stands → Ahead
+aheadBy at (whole r) = N.Record (recordAt at r)
+aheadBy at (fault f) = N.Refused f
+
+-- the same of a stream that may end there
+unfoldable pub aheadOf : ℕ → List ℕ → ℕ → Ahead
+aheadOf cap s at = cond (ltb at (length s)) (aheadBy at (standsAt cap (drop at s))) N.End
 
 -- the records before the first fault, and the fault if there is one; its place is the length of those records as a stream
 pub record Read : Type 0 where

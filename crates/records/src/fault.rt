@@ -85,16 +85,13 @@ impl Fault {
 }
 
 // The refusal of a fault at a byte place.
-pub fn refused(fault: Fault, place: usize) -> Answer
-    ensures { λ r. ⌜ r ≡ refusedAt fault place ⌝ }
+pub fn refused(fault: Fault, place: Offset) -> Answer
+    ensures { λ r. ⌜ r ≡ refusedAt fault (place .0) ⌝ }
 {
-    Answer::Refused(Refusal {
-        fault,
-        place: Offset(place),
-    })
+    Answer::Refused(Refusal { fault, place })
 }
 
-// The lowest 28 bits are what a place has in the host's number; no place of ours needs more.
+// A place has 28 bits in the host's number; one that needs more is given as the largest, and no place of ours does.
 pub fn bits(place: usize) -> u64
     ensures { λ r. ⌜ (r ≡ placeBits place) × (r < 268435456) ⌝ }
 {

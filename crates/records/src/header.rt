@@ -1,9 +1,10 @@
-// The record at the front of a stream.
+// The record at a place of a stream: the one step over the records.
 use crate::fault::Fault;
+use crate::fault::Offset;
 use numbers::number32;
 ghost use mathlib.Core.Path.{_≡_};
 ghost use Rattle.records.specs.Records.{leadOf};
-ghost use Rattle.records.specs.Reading.{frontOf, standsAt, longAt, bodyAt};
+ghost use Rattle.records.specs.Reading.{frontOf, standsAt, longAt, bodyAt, aheadOf};
 
 // What a header says: where its body begins behind it, and how long that is.
 pub struct Header {
@@ -70,4 +71,46 @@ fn body(s: &[u8], tag: u32, level: u32, lead: usize, length: u32) -> Front
         lead,
         length: n,
     })
+}
+
+// A record of a stream: where its header stands and what that says, where its body begins, and where the next header stands.
+pub struct Record {
+    pub at: Offset,
+    pub tag: u32,
+    pub level: u32,
+    pub body: Offset,
+    pub length: usize,
+    pub next: Offset,
+}
+
+// What a step over the records finds.
+pub enum Ahead {
+    Record(Record),
+    Refused(Fault),
+    End,
+}
+
+// What stands at a place of the stream, where the level may be at most cap.
+pub fn record_at(s: &[u8], at: Offset, cap: u32) -> Ahead
+    ensures { λ r. ⌜ r ≡ aheadOf cap (now (s .entry)) (at .0) ⌝ }
+{
+    let place = at.0;
+    if s.len() <= place {
+        return Ahead::End;
+    }
+    match first(&s[place..], cap) {
+        Front::Record(h) => {
+            let body = place + h.lead;
+            let next = body + h.length;
+            Ahead::Record(Record {
+                at,
+                tag: h.tag,
+                level: h.level,
+                body: Offset(body),
+                length: h.length,
+                next: Offset(next),
+            })
+        }
+        Front::Refused(f) => Ahead::Refused(f),
+    }
 }

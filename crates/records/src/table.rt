@@ -1,9 +1,10 @@
 // Read, records only.
 use crate::fault::Answer;
 use crate::fault::Fault;
+use crate::fault::Offset;
 use crate::fault::refused;
-use crate::header::Front;
-use crate::header::first;
+use crate::header::Ahead;
+use crate::header::record_at;
 ghost use mathlib.Core.Path.{_≡_};
 ghost use Prim.Native.Nat.{_≤_, min};
 ghost use lib.ListN.{length};
@@ -17,24 +18,27 @@ pub fn scan(s: &[u8], room: usize) -> Answer
     ensures { λ r. ⌜ r ≡ readAnswer (now (s .entry)) room ⌝ }
 {
     if 16777216 < s.len() {
-        return refused(Fault::StreamTooLong, 0);
+        return refused(Fault::StreamTooLong, Offset(0));
     }
-    let mut at: usize = 0;
+    let mut at = Offset(0);
     let mut cap: u32 = 0;
     let mut n: usize = 0;
-    let mut over: usize = 0;
-    while at < s.len() {
-        match first(&s[at..], cap) {
-            Front::Record(h) => {
+    let mut over = Offset(0);
+    loop {
+        match record_at(s, at, cap) {
+            Ahead::Record(r) => {
                 if n == room {
                     over = at;
                 }
-                at = at + h.lead + h.length;
-                cap = h.level + 1;
+                at = r.next;
+                cap = r.level + 1;
                 n = n + 1;
             }
-            Front::Refused(f) => {
+            Ahead::Refused(f) => {
                 return refused(f, at);
+            }
+            Ahead::End => {
+                break;
             }
         }
     }
@@ -66,25 +70,21 @@ fn enter(s: &[u8], tags: &mut [u32], levels: &mut [u32], places: &mut [u32], len
     requires { ⌜ (length (now s) ≤ limit) × (length (readAll (now s) .recs) ≤ shortest (now tags) (now levels) (now places) (now lengths)) ⌝ }
     ensures { λ _. ⌜ Table (readAll (now (s .entry)) .recs) (now (tags .entry)) (now (tags .exit)) (now (levels .entry)) (now (levels .exit)) (now (places .entry)) (now (places .exit)) (now (lengths .entry)) (now (lengths .exit)) ⌝ }
 {
-    let mut at: usize = 0;
+    let mut at = Offset(0);
     let mut cap: u32 = 0;
     let mut i: usize = 0;
-    while at < s.len() {
-        match first(&s[at..], cap) {
-            Front::Record(h) => {
-                let body = at + h.lead;
-                tags[i] = h.tag;
-                levels[i] = h.level;
-                places[i] = body as u32;
-                lengths[i] = h.length as u32;
-                at = body + h.length;
-                cap = h.level + 1;
-                i = i + 1;
-            }
-            Front::Refused(_) => {
-                return;
-            }
-        }
+    loop {
+        let Ahead::Record(r) = record_at(s, at, cap) else {
+            return;
+        };
+        let body = r.body;
+        tags[i] = r.tag;
+        levels[i] = r.level;
+        places[i] = body.0 as u32;
+        lengths[i] = r.length as u32;
+        at = r.next;
+        cap = r.level + 1;
+        i = i + 1;
     }
 }
 

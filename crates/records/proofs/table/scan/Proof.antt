@@ -1,9 +1,9 @@
 -- The first pass answers as `readAnswer` has it. Assumes nothing.
 use borrow.Author.Needs.{needs}
-use borrow.Author.Tests.{lt-ltb, eq-eqb, ne-eqb}
+use borrow.Author.Tests.{eq-eqb, ne-eqb}
 use native.Mathlib.Omega.{arith}
 use Prim.Native.Nat.{ℕ, _-_, _+_}
-use mathlib.Core.Path.{_≡_, refl, sym, ap, _∙_}
+use mathlib.Core.Path.{_≡_, sym, ap, _∙_}
 use mathlib.Core.Logic.{⊎-elim}
 use mathlib.Core.Bool.{cond}
 use mathlib.Core.Option.{none}
@@ -19,13 +19,13 @@ use Rattle.records.proofs.table.scan.Tie as tie
 use Rattle.records.proofs.table.scan.Reads as reads
 use Rattle.records.proofs.table.scan.Lts as lts
 use Rattle.records.proofs.fault.refused.Reads as refused-reads
-use Rattle.records.proofs.header.first.Reads as first-reads
+use Rattle.records.proofs.header.record_at.Reads as record-at-reads
 
 abbrev Inv-loop : tie.InvT-loop
-Inv-loop s room at₀ cap₀ n₀ over₀ at cap n over = Scanning s room at cap n over
+Inv-loop s room at₀ cap₀ n₀ over₀ at cap n over = Scanning s room (at .0) cap n (over .0)
 
 abbrev μ-loop : tie.MeasureT-loop
-μ-loop s room at₀ cap₀ n₀ over₀ at cap n over = length s - at
+μ-loop s room at₀ cap₀ n₀ over₀ at cap n over = length s - at .0
 
 refused-requires : tie.Need-refused-requires Inv-loop μ-loop
 refused-requires c κs = search needs
@@ -36,57 +36,40 @@ returns c = c .refused .ensures ∙ sym (answer-too-long _ _ (c .before .if1 .ta
 loop-holds : tie.Need-loop-holds Inv-loop μ-loop
 loop-holds c = record { small = c .if1 .left; inside = omega arith; count = omega arith; rest = answer-start _ _ (c .if1 .left) }
 
-sub-first : tie.Need-sub-first Inv-loop μ-loop
-sub-first c = search needs
+record-at-requires : tie.Need-record-at-requires Inv-loop μ-loop
+record-at-requires c κs = search needs
 
-part-first-start : tie.Need-part-first-start Inv-loop μ-loop
-part-first-start c = search needs
+enum-known-r : tie.Need-enum-known-r Inv-loop μ-loop
+enum-known-r c = search needs
 
-part-first-end : tie.Need-part-first-end Inv-loop μ-loop
-part-first-end c = search needs
+-- at a record: the loop's head, the function's entry, and what is known of the record
+abbrev head : tie.After-r Inv-loop μ-loop → tie.At-loop Inv-loop μ-loop
+head c = c .before .before .before
 
-first-requires : tie.Need-first-requires Inv-loop μ-loop
-first-requires c κs = search needs
-
-enum-known-h : tie.Need-enum-known-h Inv-loop μ-loop
-enum-known-h c = search needs
-
--- at a record: the loop's head, the function's entry, and what is known of the header
-abbrev head : tie.After-known-told Inv-loop μ-loop → tie.At-loop Inv-loop μ-loop
-head c = c .before .before .before .before .before .before
-
-abbrev start : tie.After-known-told Inv-loop μ-loop → tie.Start Inv-loop μ-loop
+abbrev start : tie.After-r Inv-loop μ-loop → tie.Start Inv-loop μ-loop
 start c = head c .before .before .before
 
-at-header : (c : tie.After-known-told Inv-loop μ-loop) → Here (start c .args .s .now) (head c .loop .at) (head c .loop .cap) (c .before .h .given .0 .0)
-at-header c =
-    here _ _ _ (slice-bytes (start c .args .s .now) (head c .before .before .shared-slice-known .given)) (c .before .before .before .before .before .loop-test .taken) _
-    (sym (c .before .before .before .first .ensures) ∙ c .before .h .given .1)
-
-add-at : tie.Need-add-at Inv-loop μ-loop
-add-at c = omega (arith, at-header (c .before .before))
-
-add-at-2 : tie.Need-add-at-2 Inv-loop μ-loop
-add-at-2 c = omega (arith, at-header (c .before .before .before))
-
-add-cap : tie.Need-add-cap Inv-loop μ-loop
-add-cap c = omega (arith, at-header (c .before .before .before .before))
-
-add-n : tie.Need-add-n Inv-loop μ-loop
-add-n c = omega (arith, at-header (c .before .before .before .before))
+its : (c : tie.After-r Inv-loop μ-loop) → Here (start c .args .s .now) (head c .loop .at .0) (head c .loop .cap) (c .r .given .0 .0)
+its c =
+    here _ _ _ (slice-bytes (start c .args .s .now) (head c .before .before .shared-slice-known .given)) _
+    (sym (c .before .before .record-at .ensures) ∙ c .r .given .1)
 
 -- where the arms of the branch meet: `over` as the definition has it
 over-is : (c : tie.Joined2 Inv-loop μ-loop)
-    → c .if2 .over ≡ cond (eqb (head (c .before) .loop .n) (start (c .before) .args .room)) (head (c .before) .loop .at) (head (c .before) .loop .over)
-over-is c = ⊎-elim (λ w. w .1 ∙ sym (simp (eq-eqb _ _ (w .0 .taken)))) (λ w. w .1 ∙ sym (simp (ne-eqb _ _ (w .0 .left)))) (c .if2 .came)
+    → c .if2 .over .0 ≡ cond (eqb (head (c .before .before) .loop .n) (start (c .before .before) .args .room)) (head (c .before .before) .loop .at .0) (head (c .before .before) .loop .over .0)
+over-is c = ⊎-elim (λ w. rw (w .1, eq-eqb _ _ (w .0 .taken))) (λ w. rw (w .1, ne-eqb _ _ (w .0 .left))) (c .if2 .came)
+
+add-cap : tie.Need-add-cap Inv-loop μ-loop
+add-cap c = omega (arith, its (c .before .before .before .before))
+
+add-n : tie.Need-add-n Inv-loop μ-loop
+add-n c = omega (arith, its (c .before .before .before .before), head (c .before .before .before .before) .loop .inv .count)
 
 loop-less : tie.Need-loop-less Inv-loop μ-loop
-loop-less c = omega (arith, at-header (c .before .before .before .before))
+loop-less c = omega (arith, its (c .before .before .before .before))
 
 loop-again : tie.Need-loop-again Inv-loop μ-loop
-loop-again c =
-    let d = c .before .before .before .before in
-    scan-next _ _ _ _ _ _ _ _ (head d .loop .inv) (at-header d) (over-is (c .before .before .before))
+loop-again c = let d = c .before .before .before .before in scan-next _ _ _ _ _ _ _ _ (head d .loop .inv) (its d) (over-is (c .before .before))
 
 enum-known-f : tie.Need-enum-known-f Inv-loop μ-loop
 enum-known-f c = search needs
@@ -96,21 +79,18 @@ refused-requires-2 c κs = search needs
 
 returns-2 : tie.Need-returns-2 Inv-loop μ-loop
 returns-2 c =
-    let l = c .before .before .before .before .before .before .before in
-    let s = l .before .before .before in
+    let l = c .before .before .before .before .before in
     c .refused2 .ensures
-    ∙ sym
-    (l .loop .inv .rest
-    ∙ ap (answerFrom _ _ _ _)
-    (stops-here _ _ _ (slice-bytes (s .args .s .now) (l .before .before .shared-slice-known .given)) (c .before .before .before .before .before .before .loop-test .taken) _
-    (sym (c .before .before .before .before .first .ensures) ∙ c .before .before .f .given .1))
-    ∙ answer-stop _ _ _ _ _)
+    ∙ sym (l .loop .inv .rest ∙ ap (answerFrom _ _ _ _) (stops-here _ _ _ _ (sym (c .before .before .before .before .record-at .ensures) ∙ c .before .before .f .given .1)) ∙ answer-stop _ _ _ _ _)
 
--- after the loop nothing is left
-at-end : (c : tie.After-loop Inv-loop μ-loop)
-    → readAnswer (c .before .before .before .before .args .s .now) (c .before .before .before .before .args .room)
-    ≡ answerFrom (c .before .before .before .before .args .room) (c .before .loop .n) (c .before .loop .over) (c .before .loop .at) (record { recs = []; stop = none })
-at-end c = c .before .loop .inv .rest ∙ ap (answerFrom _ _ _ _) (ends-here _ _ _ (c .loop-test .left))
+enum-told : tie.Need-enum-told Inv-loop μ-loop
+enum-told c = search needs
+
+-- where nothing is left
+at-end : (c : tie.After-enum-told Inv-loop μ-loop)
+    → readAnswer (c .before .before .before .before .before .before .args .s .now) (c .before .before .before .before .before .before .args .room)
+    ≡ answerFrom (c .before .before .before .before .before .before .args .room) (c .before .before .before .loop .n) (c .before .before .before .loop .over .0) (c .before .before .before .loop .at .0) (record { recs = []; stop = none })
+at-end c = c .before .before .before .loop .inv .rest ∙ ap (answerFrom _ _ _ _) (ends-here _ _ _ (sym (c .before .before .record-at .ensures) ∙ c .enum-told .given .1))
 
 refused-requires-3 : tie.Need-refused-requires-3 Inv-loop μ-loop
 refused-requires-3 c κs = search needs
@@ -130,13 +110,8 @@ scan-spec =
     refused-requires
     returns
     loop-holds
-    sub-first
-    part-first-start
-    part-first-end
-    first-requires
-    enum-known-h
-    add-at
-    add-at-2
+    record-at-requires
+    enum-known-r
     add-cap
     add-n
     loop-less
@@ -144,6 +119,7 @@ scan-spec =
     enum-known-f
     refused-requires-2
     returns-2
+    enum-told
     refused-requires-3
     returns-3
     returns-4)
