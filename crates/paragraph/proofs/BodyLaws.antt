@@ -11,13 +11,14 @@ use lib.Seq.{length-take-le}
 use borrow.Author.Tests.{eqb-true, eqb-false, eq-eqb, ne-eqb}
 use Rattle.numbers.specs.Little.{Bytes}
 use Rattle.records.specs.Records.{Rec, size}
+use Rattle.records.specs.Reading.{recordAt}
+use Rattle.records.specs.declared.header.Record.{Record}
 use Rattle.paragraph.specs.View.{side, keep, kids, child, controls}
 use Rattle.paragraph.specs.Stream.{recordsIn}
 use Rattle.paragraph.specs.Rules.{lengthOf}
-use Rattle.paragraph.specs.Places.{sought, partAt, foundIn, lengthFound, bodyOf, bodyFound, Inside}
+use Rattle.paragraph.specs.Places.{sought, foundIn, lengthFound, bodyOf, bodyFound, Inside}
 use Rattle.paragraph.specs.declared.view.Side.{Side}
 use Rattle.paragraph.specs.declared.view.Side.the-variants as S
-use Rattle.paragraph.specs.declared.children.Part.{Part}
 use Rattle.paragraph.specs.declared.children.Found.{Found}
 use Rattle.paragraph.specs.declared.children.Found.the-variants as P
 use Rattle.paragraph.proofs.StreamLaws.{Stood, stood-of}
@@ -79,8 +80,9 @@ module _ (r : Rec) (k : List Rec) where
 -- ---- what a search for the first child with a tag finds
 
 -- p is the record with the tag, and its bytes are the body
-record Met (s : List ℕ) (n tag at : ℕ) (p : Part) : Type 0 where
-  inside : p .at + p .lead + p .length ≤ length s
+record Met (s : List ℕ) (n tag at : ℕ) (p : Record) : Type 0 where
+  body-end : p .body .0 + p .length ≡ p .next .0
+  inside : p .next .0 ≤ length s
   child-is : child tag (kids n (recordsIn (drop at s))) ≡ some (bodyOf s p)
 
 abbrev MetIf : List ℕ → ℕ → ℕ → ℕ → Found → Type 0
@@ -91,14 +93,15 @@ module _ (s : List ℕ) (bs : Bytes s) (n tag : ℕ) where
   -- where the child from `at` on is that from `to` on
   same-if : (at to : ℕ) → child tag (kids n (recordsIn (drop at s))) ≡ child tag (kids n (recordsIn (drop to s)))
       → (f : Found) → MetIf s n tag to f → MetIf s n tag at f
-  same-if at to e (P.At p) k = record { inside = k .inside; child-is = e ∙ k .child-is }
+  same-if at to e (P.At p) k = record { body-end = k .body-end; inside = k .inside; child-is = e ∙ k .child-is }
   same-if at to e P.Nothing k = e ∙ k
 
-  met-here : (at : ℕ) (r : Rec) → Stood s at r → side n (r .tag) (r .level) ≡ S.Owned → r .tag ≡ tag → Met s n tag at (partAt at r)
+  met-here : (at : ℕ) (r : Rec) → Stood s at r → side n (r .tag) (r .level) ≡ S.Owned → r .tag ≡ tag → Met s n tag at (recordAt at r)
   unfolding size
   met-here at r d o t =
       record {
-        inside = omega (arith, d .inside);
+        body-end = omega arith;
+        inside = d .inside;
         child-is =
             ap (child tag) (ap (kids n) (d .records) ∙ kids-owned n r (recordsIn (drop (at + size r) s)) o)
             ∙ child-here tag r (kids n (recordsIn (drop (at + size r) s))) t ∙ ap some (sym (d .body-is));
@@ -139,7 +142,7 @@ module _ (s : List ℕ) (bs : Bytes s) (n tag : ℕ) where
 
   length-if : (at : ℕ) (f : Found) → MetIf s n tag at f → lengthFound f ≡ lengthOf (child tag (kids n (recordsIn (drop at s))))
   length-if at (P.At p) k =
-      ap some (sym (length-take-le (p .length) (drop (p .at + p .lead) s) (omega (arith, length-drop (p .at + p .lead) s, k .inside))))
+      ap some (sym (length-take-le (p .length) (drop (p .body .0) s) (omega (arith, length-drop (p .body .0) s, k .body-end, k .inside))))
       ∙ ap lengthOf (sym (k .child-is))
   length-if at P.Nothing k = ap lengthOf (sym k)
 

@@ -26,7 +26,7 @@ use Rattle.paragraph.specs.View.{kids, controls}
 use Rattle.paragraph.specs.Stream.{recordsIn}
 use Rattle.paragraph.specs.Rules.{guard, ownerOf, codeBefore, codesIn, fieldShort, fieldFault}
 use Rattle.paragraph.specs.Places.{foundIn, bodyOf, headerFound, ownedBy}
-use Rattle.paragraph.specs.declared.children.Part.{Part}
+use Rattle.records.specs.declared.header.Record.{Record}
 use Rattle.paragraph.specs.declared.children.Found.{Found}
 use Rattle.paragraph.specs.declared.children.Found.the-variants as P
 use Rattle.paragraph.specs.declared.fields.Owner.{Owner}
@@ -36,7 +36,7 @@ use Rattle.paragraph.specs.declared.fields.Owned.the-variants as K
 use Rattle.paragraph.specs.declared.finding.Which.the-variants as W
 use Rattle.paragraph.specs.declared.finding.Finding.{Finding}
 use Rattle.paragraph.specs.declared.finding.Finding.the-variants as G
-use Rattle.paragraph.proofs.OwningLaws.{behind, headers, Owning, owning}
+use Rattle.paragraph.proofs.OwningLaws.{headers, Owning, owning}
 
 pub owner-extended : (k : Control) → k .class ≡ Extended → O.Owner (k .code) ≡ ownerOf (T.Control k)
 owner-extended k e = rw e
@@ -162,16 +162,16 @@ module _ {s us : List ℕ} {from n p k at nth : ℕ} (w : Walking s us from n p 
         }
 
     -- at a field's control header
-    module _ (part : Part) (o : (ownerOf what ≡ O.Owner 3) × Owning s n k at part) where
+    module _ (part : Record) (o : (ownerOf what ≡ O.Owner 3) × Owning s n k at part) where
       at-header : (b : Bool) → fieldShort (bodyOf s part) ≡ b
-          → wholeAt s us n from ≡ guard b (G.Breach F.FieldHeaderShort (W.Child 71 nth)) (leftAt s us n q 0 (behind part) (nth + 1))
+          → wholeAt s us n from ≡ guard b (G.Breach F.FieldHeaderShort (W.Child 71 nth)) (leftAt s us n q 0 (part .next .0) (nth + 1))
       unfolding fieldFault
       at-header b e =
           onto (O.Owner 3) (o .0)
           ∙ ap (fieldFault nth (3 ∷ codesIn (tokensAt us q))) (o .1 .headers-are)
           ∙ rw e
 
-      pub walking-header : fieldShort (bodyOf s part) ≡ false → Walking s us from n q 0 (behind part) (nth + 1)
+      pub walking-header : fieldShort (bodyOf s part) ≡ false → Walking s us from n q 0 (part .next .0) (nth + 1)
       unfolding guard
       walking-header e =
           record { sound = sym (d .fault) ∙ w .sound; few = omega (arith, w .few, d .rises); fewer = omega arith; rest = at-header false e }

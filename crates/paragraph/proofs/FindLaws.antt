@@ -6,13 +6,13 @@ use mathlib.Core.List.{List, [], _∷_}
 use lib.ListN.{length, drop}
 use borrow.Author.Tests.{eq-eqb, ne-eqb}
 use Rattle.records.specs.Records.{Rec, size}
-use Rattle.records.specs.declared.header.Header.{Header}
+use Rattle.records.specs.Reading.{recordAt}
+use Rattle.records.specs.declared.header.Record.{Record}
 use Rattle.paragraph.specs.View.{side}
 use Rattle.paragraph.specs.Stream.{recordsIn}
-use Rattle.paragraph.specs.Places.{soughtBy, sought, partAt, foundIn}
+use Rattle.paragraph.specs.Places.{soughtBy, sought, foundIn}
 use Rattle.paragraph.specs.declared.view.Side.{Side}
 use Rattle.paragraph.specs.declared.view.Side.the-variants as S
-use Rattle.paragraph.specs.declared.children.Part.{Part}
 use Rattle.paragraph.specs.declared.children.Found.{Found}
 use Rattle.paragraph.specs.declared.children.Found.the-variants as P
 use Rattle.paragraph.proofs.StreamLaws.{Read}
@@ -45,7 +45,7 @@ module _ (n tag at : ℕ) (r : Rec) (rs : List Rec) where
   unfolding foundIn
   found-passed nth e = rw (e, foundIn)
 
-  pub found-here : sought n tag (r .tag) (r .level) ≡ S.Owned → foundIn n tag 0 at (r ∷ rs) ≡ P.At (partAt at r)
+  pub found-here : sought n tag (r .tag) (r .level) ≡ S.Owned → foundIn n tag 0 at (r ∷ rs) ≡ P.At (recordAt at r)
   unfolding foundIn
   found-here e = rw (e, foundIn)
 
@@ -58,45 +58,42 @@ module _ (n tag at : ℕ) (r : Rec) (rs : List Rec) where
 pub record Seeking (s : List ℕ) (n tag nth from left at : ℕ) : Type 0 where
   pub rest : foundIn n tag nth from (recordsIn (drop from s)) ≡ foundIn n tag left at (recordsIn (drop at s))
 
-module _ {s : List ℕ} {n tag nth from left at : ℕ} {h : Header} (k : Seeking s n tag nth from left at) (d : Read s at h) where
+module _ {s : List ℕ} {n tag nth from left at : ℕ} {r : Record} (k : Seeking s n tag nth from left at) (d : Read s at r) where
   abbrev side-of : Side
-  side-of = sought n tag (h .tag) (h .level)
+  side-of = sought n tag (r .tag) (r .level)
 
   to : side-of ≡ sought n tag (d .rec .tag) (d .rec .level)
   to = rw (d .tag-is, d .level-is)
 
-  abbrev next : ℕ
-  next = at + h .lead + h .length
+  here : foundIn n tag nth from (recordsIn (drop from s)) ≡ foundIn n tag left at (d .rec ∷ recordsIn (drop (r .next .0) s))
+  here = k .rest ∙ ap (foundIn n tag left at) (d .records)
 
-  next-is : at + size (d .rec) ≡ next
-  next-is = omega (arith, d .size-is)
-
-  here : foundIn n tag nth from (recordsIn (drop from s)) ≡ foundIn n tag left at (d .rec ∷ recordsIn (drop next s))
-  here = k .rest ∙ ap (foundIn n tag left at) (d .stands .records) ∙ rw next-is
+  -- what is found behind it
+  behind : (l : ℕ) → foundIn n tag l (at + size (d .rec)) (recordsIn (drop (r .next .0) s)) ≡ foundIn n tag l (r .next .0) (recordsIn (drop (r .next .0) s))
+  behind l = ap (λ (i : ℕ). foundIn n tag l i (recordsIn (drop (r .next .0) s))) (sym (d .next-is))
 
   pub seek-beyond : side-of ≡ S.Beyond → P.Nothing ≡ foundIn n tag nth from (recordsIn (drop from s))
   seek-beyond e = sym (here ∙ found-beyond n tag at (d .rec) _ left (sym to ∙ e))
 
-  pub seek-here : side-of ≡ S.Owned → left ≡ 0
-      → P.At (record { at = at; lead = h .lead; length = h .length }) ≡ foundIn n tag nth from (recordsIn (drop from s))
+  pub seek-here : side-of ≡ S.Owned → left ≡ 0 → P.At r ≡ foundIn n tag nth from (recordsIn (drop from s))
   seek-here e z =
       sym
       (here
-      ∙ ap (λ (l : ℕ). foundIn n tag l at (d .rec ∷ recordsIn (drop next s))) z
+      ∙ ap (λ (l : ℕ). foundIn n tag l at (d .rec ∷ recordsIn (drop (r .next .0) s))) z
       ∙ found-here n tag at (d .rec) _ (sym to ∙ e)
-      ∙ sym (ap₂ (λ (a b : ℕ). P.At (record { at = at; lead = a; length = b })) (d .lead-is) (d .length-is)))
+      ∙ ap P.At (sym (d .is)))
 
-  pub seek-later : side-of ≡ S.Owned → (left ≡ 0 → ⊥) → Seeking s n tag nth from (left - 1) next
+  pub seek-later : side-of ≡ S.Owned → (left ≡ 0 → ⊥) → Seeking s n tag nth from (left - 1) (r .next .0)
   seek-later e z =
       let one : left ≡ suc (left - 1) = omega arith in
       record {
         rest =
-            here ∙ ap (λ (l : ℕ). foundIn n tag l at (d .rec ∷ recordsIn (drop next s))) one
-            ∙ found-later n tag at (d .rec) _ (left - 1) (sym to ∙ e) ∙ rw next-is;
+            here ∙ ap (λ (l : ℕ). foundIn n tag l at (d .rec ∷ recordsIn (drop (r .next .0) s))) one
+            ∙ found-later n tag at (d .rec) _ (left - 1) (sym to ∙ e) ∙ behind (left - 1);
       }
 
-  pub seek-passed : side-of ≡ S.Passed → Seeking s n tag nth from left next
-  seek-passed e = record { rest = here ∙ found-passed n tag at (d .rec) _ left (sym to ∙ e) ∙ rw next-is }
+  pub seek-passed : side-of ≡ S.Passed → Seeking s n tag nth from left (r .next .0)
+  seek-passed e = record { rest = here ∙ found-passed n tag at (d .rec) _ left (sym to ∙ e) ∙ behind left }
 
 pub seek-none : {s : List ℕ} {n tag nth from left at : ℕ} → Seeking s n tag nth from left at → recordsIn (drop at s) ≡ []
     → P.Nothing ≡ foundIn n tag nth from (recordsIn (drop from s))

@@ -8,34 +8,33 @@ use lib.ListN.{length, drop}
 use lib.Seq.{drop-nil}
 use Rattle.numbers.specs.Little.{Bytes}
 use Rattle.records.specs.Records.{Rec, leadOf, size}
+use Rattle.records.specs.Reading.{recordAt}
+use Rattle.records.specs.declared.header.Record.{Record}
 use Rattle.records.proofs.ReadingLaws.{size-least}
 use Rattle.paragraph.specs.View.{side, kids, controls}
 use Rattle.paragraph.specs.Stream.{recordsIn}
-use Rattle.paragraph.specs.Places.{partAt, foundIn, bodyOf}
+use Rattle.paragraph.specs.Places.{foundIn, bodyOf}
 use Rattle.paragraph.specs.declared.view.Side.the-variants as S
-use Rattle.paragraph.specs.declared.children.Part.{Part}
 use Rattle.paragraph.specs.declared.children.Found.{Found}
 use Rattle.paragraph.specs.declared.children.Found.the-variants as P
 use Rattle.paragraph.proofs.StreamLaws.{Stood, stood-of}
 use Rattle.paragraph.proofs.FindLaws.{sought-owned, found-beyond, found-passed, found-here, found-later}
 use Rattle.paragraph.proofs.BodyLaws.{Ways, ways, beyond, owned, other, passed, kids-beyond, kids-owned, kids-passed, controls-here, controls-other}
 
-abbrev pub behind : Part → ℕ
-behind p = p .at + p .lead + p .length
-
 -- the bodies of the control headers from `at` on
 abbrev pub headers : List ℕ → ℕ → ℕ → List (List ℕ)
 headers s n at = controls (kids n (recordsIn (drop at s)))
 
 -- p is the one behind k of them
-pub record Owning (s : List ℕ) (n k at : ℕ) (p : Part) : Type 0 where
-  pub from : at ≤ p .at
-  pub least : 4 ≤ p .lead + p .length
-  pub inside : behind p ≤ length s
-  pub lead-is : p .lead ≡ leadOf (p .length)
-  pub headers-are : drop k (headers s n at) ≡ bodyOf s p ∷ headers s n (behind p)
+pub record Owning (s : List ℕ) (n k at : ℕ) (p : Record) : Type 0 where
+  pub from : at ≤ p .at .0
+  pub least : p .at .0 + 4 ≤ p .next .0
+  pub inside : p .next .0 ≤ length s
+  pub body-is : p .body .0 ≡ p .at .0 + leadOf (p .length)
+  pub body-end : p .body .0 + p .length ≡ p .next .0
+  pub headers-are : drop k (headers s n at) ≡ bodyOf s p ∷ headers s n (p .next .0)
   pub found : foundIn n 71 k at (recordsIn (drop at s)) ≡ P.At p
-  pub later : (i j : ℕ) → i ≡ suc (k + j) → foundIn n 71 i at (recordsIn (drop at s)) ≡ foundIn n 71 j (behind p) (recordsIn (drop (behind p) s))
+  pub later : (i j : ℕ) → i ≡ suc (k + j) → foundIn n 71 i at (recordsIn (drop at s)) ≡ foundIn n 71 j (p .next .0) (recordsIn (drop (p .next .0) s))
 
 abbrev pub OwningIf : List ℕ → ℕ → ℕ → ℕ → Found → Type 0
 OwningIf s n k at (P.At p) = Owning s n k at p
@@ -52,27 +51,25 @@ none-left k l e = rw e (drop-nil {A = List ℕ} k)
 
 module _ (s : List ℕ) (bs : Bytes s) (n : ℕ) where
   -- the first of them stands at `at`
-  owning-here : (at : ℕ) (r : Rec) → Stood s at r → side n (r .tag) (r .level) ≡ S.Owned → r .tag ≡ 71 → Owning s n 0 at (partAt at r)
+  owning-here : (at : ℕ) (r : Rec) → Stood s at r → side n (r .tag) (r .level) ≡ S.Owned → r .tag ≡ 71 → Owning s n 0 at (recordAt at r)
   unfolding size
   owning-here at r d o t =
-      let to : at + leadOf (length (r .body)) + length (r .body) ≡ at + size r = add-assoc at (leadOf (length (r .body))) (length (r .body)) in
       record {
         from = omega arith;
         least = omega (arith, size-least r);
-        inside = omega (arith, d .inside);
-        lead-is = refl;
+        inside = d .inside;
+        body-is = refl;
+        body-end = add-assoc at (leadOf (length (r .body))) (length (r .body));
         headers-are =
             ap (λ (l : List Rec). controls (kids n l)) (d .records)
             ∙ ap controls (kids-owned n r (recordsIn (drop (at + size r) s)) o)
             ∙ controls-here r (kids n (recordsIn (drop (at + size r) s))) t
-            ∙ ap (λ (b : List ℕ). b ∷ headers s n (at + size r)) (sym (d .body-is))
-            ∙ ap (λ (e : ℕ). bodyOf s (partAt at r) ∷ headers s n e) (sym to);
+            ∙ ap (λ (b : List ℕ). b ∷ headers s n (at + size r)) (sym (d .body-is));
         found = ap (foundIn n 71 0 at) (d .records) ∙ found-here n 71 at r (recordsIn (drop (at + size r) s)) (sought-owned n 71 (r .tag) (r .level) o t);
         later = λ i j e.
             ap (foundIn n 71 i at) (d .records)
             ∙ ap (λ (i : ℕ). foundIn n 71 i at (r ∷ recordsIn (drop (at + size r) s))) (e ∙ one j)
-            ∙ found-later n 71 at r (recordsIn (drop (at + size r) s)) j (sought-owned n 71 (r .tag) (r .level) o t)
-            ∙ ap (λ (e : ℕ). foundIn n 71 j e (recordsIn (drop e s))) (sym to);
+            ∙ found-later n 71 at r (recordsIn (drop (at + size r) s)) j (sought-owned n 71 (r .tag) (r .level) o t);
       }
 
   module _ (at : ℕ) (r : Rec) (rs : List Rec) (d : Stood s at r) where
@@ -84,7 +81,8 @@ module _ (s : List ℕ) (bs : Bytes s) (n : ℕ) where
           from = omega (arith, o .from);
           least = o .least;
           inside = o .inside;
-          lead-is = o .lead-is;
+          body-is = o .body-is;
+          body-end = o .body-end;
           headers-are = ap (drop k) e ∙ o .headers-are;
           found = g k ∙ o .found;
           later = λ i j q. g i ∙ o .later i j q;
@@ -99,7 +97,8 @@ module _ (s : List ℕ) (bs : Bytes s) (n : ℕ) where
           from = omega (arith, o .from);
           least = o .least;
           inside = o .inside;
-          lead-is = o .lead-is;
+          body-is = o .body-is;
+          body-end = o .body-end;
           headers-are = ap (drop (suc k)) e ∙ o .headers-are;
           found = g k ∙ o .found;
           later = λ i j q. ap (λ (i : ℕ). foundIn n 71 i at (recordsIn (drop at s))) (q ∙ two k j) ∙ g (suc (k + j)) ∙ o .later (suc (k + j)) j refl;

@@ -8,13 +8,13 @@ use lib.Dec.{eqb}
 use lib.ListN.{length, drop}
 use borrow.Author.Tests.{eqb-true, eqb-false}
 use Rattle.records.specs.Records.{Rec, size}
-use Rattle.records.specs.declared.header.Header.{Header}
+use Rattle.records.specs.Reading.{recordAt}
+use Rattle.records.specs.declared.header.Record.{Record}
 use Rattle.paragraph.specs.View.{side, kids, controls}
 use Rattle.paragraph.specs.Stream.{recordsIn}
-use Rattle.paragraph.specs.Places.{partAt, foundIn, takenAs, taken, partsIn}
+use Rattle.paragraph.specs.Places.{foundIn, takenAs, taken, partsIn}
 use Rattle.paragraph.specs.declared.view.Side.{Side}
 use Rattle.paragraph.specs.declared.view.Side.the-variants as S
-use Rattle.paragraph.specs.declared.children.Part.{Part}
 use Rattle.paragraph.specs.declared.children.Parts.{Parts}
 use Rattle.paragraph.specs.declared.children.Found.{Found}
 use Rattle.paragraph.specs.declared.children.Found.the-variants as P
@@ -61,9 +61,9 @@ nothing-joined b = let z : 0 + b .controls ≡ b .controls = omega arith in rw z
 
 -- ---- one record
 
-at-most : (a : Parts) (tag : ℕ) (p : Part) → taken a tag p .controls ≤ a .controls + 1
+at-most : (a : Parts) (p : Record) → taken a p .controls ≤ a .controls + 1
 unfolding taken
-at-most a tag p = go (eqb tag 71)
+at-most a p = go (eqb (p .tag) 71)
   where
     go : (b : Bool) → a .controls + cond b 1 0 ≤ a .controls + 1
     go true = omega arith
@@ -85,11 +85,11 @@ module _ (n at : ℕ) (r : Rec) (rs : List Rec) where
 
   -- one of the four: what was found before, this record, or what the rest has
   found-taken : side n (r .tag) (r .level) ≡ S.Owned → (t : ℕ) (f : Found)
-      → earlier f (foundIn n t 0 at (r ∷ rs)) ≡ earlier (takenAs f (eqb (r .tag) t) (partAt at r)) (foundIn n t 0 (at + size r) rs)
+      → earlier f (foundIn n t 0 at (r ∷ rs)) ≡ earlier (takenAs f (eqb (r .tag) t) (recordAt at r)) (foundIn n t 0 (at + size r) rs)
   found-taken e t (P.At p) = refl
   found-taken e t P.Nothing = go (eqb (r .tag) t) refl
     where
-      go : (b : Bool) → eqb (r .tag) t ≡ b → foundIn n t 0 at (r ∷ rs) ≡ earlier (cond b (P.At (partAt at r)) P.Nothing) (foundIn n t 0 (at + size r) rs)
+      go : (b : Bool) → eqb (r .tag) t ≡ b → foundIn n t 0 at (r ∷ rs) ≡ earlier (cond b (P.At (recordAt at r)) P.Nothing) (foundIn n t 0 (at + size r) rs)
       go true q = found-here n t at r rs (sought-owned n t (r .tag) (r .level) e (eqb-true (r .tag) t q))
       go false q = found-passed n t at r rs 0 (sought-other n t (r .tag) (r .level) e (eqb-false (r .tag) t q))
 
@@ -102,7 +102,7 @@ module _ (n at : ℕ) (r : Rec) (rs : List Rec) where
       go false q = rw (controls-other r (kids n rs) (eqb-false (r .tag) 71 q)) (omega arith)
 
   parts-owned : side n (r .tag) (r .level) ≡ S.Owned → (a : Parts)
-      → joined a (partsIn n at (r ∷ rs)) ≡ joined (taken a (r .tag) (partAt at r)) (partsIn n (at + size r) rs)
+      → joined a (partsIn n at (r ∷ rs)) ≡ joined (taken a (recordAt at r)) (partsIn n (at + size r) rs)
   unfolding joined partsIn taken
   parts-owned e a =
       rw (found-taken e 67 (a .text), found-taken e 68 (a .shapes), found-taken e 69 (a .layout), found-taken e 70 (a .marks), controls-taken e (a .controls))
@@ -116,44 +116,39 @@ pub record Gathering (s : List ℕ) (n from : ℕ) (a : Parts) (at : ℕ) : Type
 pub gather-start : (s : List ℕ) (n from : ℕ) → Gathering s n from nothing from
 gather-start s n from = record { few = omega arith; rest = sym (nothing-joined (partsIn n from (recordsIn (drop from s)))) }
 
-module _ {s : List ℕ} {n from at : ℕ} {a : Parts} {h : Header} (k : Gathering s n from a at) (d : Read s at h) where
+module _ {s : List ℕ} {n from at : ℕ} {a : Parts} {r : Record} (k : Gathering s n from a at) (d : Read s at r) where
   abbrev side-of : Side
-  side-of = side n (h .tag) (h .level)
+  side-of = side n (r .tag) (r .level)
 
   to : side-of ≡ side n (d .rec .tag) (d .rec .level)
   to = rw (d .tag-is, d .level-is)
 
-  next-is : at + size (d .rec) ≡ at + h .lead + h .length
-  next-is = omega (arith, d .size-is)
+  here : partsIn n from (recordsIn (drop from s)) ≡ joined a (partsIn n at (d .rec ∷ recordsIn (drop (r .next .0) s)))
+  here = k .rest ∙ ap (λ (l : List Rec). joined a (partsIn n at l)) (d .records)
 
-  here : partsIn n from (recordsIn (drop from s)) ≡ joined a (partsIn n at (d .rec ∷ recordsIn (drop (at + size (d .rec)) s)))
-  here = k .rest ∙ ap (λ (l : List Rec). joined a (partsIn n at l)) (d .stands .records)
+  -- with what the records behind it add
+  behind : (b : Parts) → joined b (partsIn n (at + size (d .rec)) (recordsIn (drop (r .next .0) s))) ≡ joined b (partsIn n (r .next .0) (recordsIn (drop (r .next .0) s)))
+  behind b = ap (λ (i : ℕ). joined b (partsIn n i (recordsIn (drop (r .next .0) s)))) (sym (d .next-is))
 
   pub gather-beyond : side-of ≡ S.Beyond → a ≡ partsIn n from (recordsIn (drop from s))
   gather-beyond e =
-      sym (here ∙ ap (joined a) (parts-beyond n at (d .rec) (recordsIn (drop (at + size (d .rec)) s)) (sym to ∙ e)) ∙ joined-nothing a)
+      sym (here ∙ ap (joined a) (parts-beyond n at (d .rec) (recordsIn (drop (r .next .0) s)) (sym to ∙ e)) ∙ joined-nothing a)
 
-  pub gather-passed : side-of ≡ S.Passed → Gathering s n from a (at + h .lead + h .length)
+  pub gather-passed : side-of ≡ S.Passed → Gathering s n from a (r .next .0)
   gather-passed e =
       record {
-        few = omega (arith, k .few);
-        rest =
-            here ∙ ap (joined a) (parts-passed n at (d .rec) (recordsIn (drop (at + size (d .rec)) s)) (sym to ∙ e))
-            ∙ ap (λ (i : ℕ). joined a (partsIn n i (recordsIn (drop i s)))) next-is;
+        few = omega (arith, k .few, d .next-is);
+        rest = here ∙ ap (joined a) (parts-passed n at (d .rec) (recordsIn (drop (r .next .0) s)) (sym to ∙ e)) ∙ behind a;
       }
 
-  part-is : partAt at (d .rec) ≡ record { at = at; lead = h .lead; length = h .length }
-  part-is = rw (d .lead-is, d .length-is)
-
-  pub gather-owned : side-of ≡ S.Owned
-      → Gathering s n from (taken a (h .tag) (record { at = at; lead = h .lead; length = h .length })) (at + h .lead + h .length)
+  pub gather-owned : side-of ≡ S.Owned → Gathering s n from (taken a r) (r .next .0)
   gather-owned e =
       record {
-        few = omega (arith, k .few, at-most a (h .tag) (record { at = at; lead = h .lead; length = h .length }), d .size-is, d .least);
+        few = omega (arith, k .few, at-most a r, d .next-is, d .least);
         rest =
-            here ∙ parts-owned n at (d .rec) (recordsIn (drop (at + size (d .rec)) s)) (sym to ∙ e) a
-            ∙ ap (λ (i : ℕ). joined (taken a (d .rec .tag) (partAt at (d .rec))) (partsIn n i (recordsIn (drop i s)))) next-is
-            ∙ rw (part-is, ← d .tag-is);
+            here ∙ parts-owned n at (d .rec) (recordsIn (drop (r .next .0) s)) (sym to ∙ e) a
+            ∙ behind (taken a (recordAt at (d .rec)))
+            ∙ ap (λ (p : Record). joined (taken a p) (partsIn n (r .next .0) (recordsIn (drop (r .next .0) s)))) (sym (d .is));
       }
 
 pub gather-none : {s : List ℕ} {n from at : ℕ} {a : Parts} → Gathering s n from a at → recordsIn (drop at s) ≡ []

@@ -1,7 +1,7 @@
 -- The records of a part of a stream, by the header at a place. Assumes nothing.
 use Prim.Native.Nat.{ℕ, zero, suc, _+_, _-_, _/_, _%_, _≤_, _<_}
 use native.Mathlib.Omega.{arith}
-use mathlib.Core.Path.{_≡_, refl, sym, ap, _∙_}
+use mathlib.Core.Path.{_≡_, refl, sym, ap, ap₂, _∙_}
 use mathlib.Core.Bool.{Bool, true, false, cond}
 use mathlib.Core.Option.{Option, none, some}
 use mathlib.Core.List.{List, [], _∷_, _++_}
@@ -11,12 +11,12 @@ use lib.ListN.{length, take, drop, length-drop, length-append}
 use lib.Seq.{drop-drop, drop-at, take-add, length-take-le}
 use Rattle.numbers.specs.Little.{Bytes}
 use Rattle.records.specs.Records.{Rec, leadOf, headerOf, encodeOne, encode, size, Obeys, Lawful}
-use Rattle.records.specs.Reading.{Stands, whole, fault, standsAt, frontOf, readFrom, readAll}
+use Rattle.records.specs.Reading.{Stands, whole, fault, standsAt, recordAt, aheadBy, aheadOf, readFrom, readAll}
 use Rattle.records.specs.declared.fault.Fault.{Fault}
-use Rattle.records.specs.declared.header.Header.{Header}
-use Rattle.records.specs.declared.header.Front.{Front}
-use Rattle.records.specs.declared.header.Front.the-variants as H
-use Rattle.records.proofs.ReadingLaws.{Here, here, Found, found, size-least, length-headerOf, length-encodeOne, stands-encode, encode-read}
+use Rattle.records.specs.declared.header.Record.{Record}
+use Rattle.records.specs.declared.header.Ahead.{Ahead}
+use Rattle.records.specs.declared.header.Ahead.the-variants as N
+use Rattle.records.proofs.ReadingLaws.{Here, here, NoRecord, no-record, Found, found, size-least, length-headerOf, length-encodeOne, stands-encode, encode-read}
 use Rattle.numbers.proofs.LittleLaws.{bytes-drop, part-rest}
 use Rattle.paragraph.specs.Stream.{within, recordsIn}
 
@@ -44,6 +44,9 @@ in-next [] r h e = absurd (omega arith)
 in-next (x ∷ s) r h e =
     let one : size r ≡ suc (size r - 1) = omega (arith, size-least r) in
     rw (e, within) (ap (λ (l : List Rec). r ∷ l) (in-skip (size r - 1) s ∙ ap (λ (k : ℕ). within 0 (drop k (x ∷ s))) (sym one)))
+
+pub none-left : (s : List ℕ) (at : ℕ) → length s ≤ at → recordsIn (drop at s) ≡ []
+none-left s at h = in-end (drop at s) (omega (arith, length-drop at s))
 
 -- ---- a record at a place
 
@@ -99,42 +102,49 @@ module _ (s : List ℕ) (at : ℕ) (bs : Bytes s) where
       let k = stood-by (standsAt 1023 (drop at s)) refl r rs (left-by r rs e (ltb at (length s)) refl) e in
       (k, let z : r ∷ recordsIn (drop (at + size r) s) ≡ r ∷ rs = sym (k .records) ∙ e in cc)
 
--- ---- a pass over a stream: what is known where a header was read at `at`
+-- ---- a step over the records: what is known where it found one at `at`
 
-pub record Read (s : List ℕ) (at : ℕ) (h : Header) : Type 0 where
+pub record Read (s : List ℕ) (at : ℕ) (r : Record) : Type 0 where
   pub rec : Rec
-  pub tag-is : h .tag ≡ rec .tag
-  pub level-is : h .level ≡ rec .level
-  pub lead-is : h .lead ≡ leadOf (length (rec .body))
-  pub length-is : h .length ≡ length (rec .body)
-  pub size-is : h .lead + h .length ≡ size rec
+  pub is : r ≡ recordAt at rec
+  pub tag-is : r .tag ≡ rec .tag
+  pub level-is : r .level ≡ rec .level
+  pub length-is : r .length ≡ length (rec .body)
+  pub next-is : r .next .0 ≡ at + size rec
+  pub body-end : r .body .0 + r .length ≡ r .next .0
   pub least : 4 ≤ size rec
+  pub body-is : take (r .length) (drop (r .body .0) s) ≡ rec .body
+  pub records : recordsIn (drop at s) ≡ rec ∷ recordsIn (drop (r .next .0) s)
   pub stands : Stood s at rec
 
-module _ (s : List ℕ) (at : ℕ) (bs : Bytes s) (h : at < length s) where
-  pub read-at : (k : Header) → frontOf (standsAt 1023 (take (length s - at) (drop at s))) ≡ H.Record k → Read s at k
-  read-at k e =
-      let d = here s at 1023 bs h k e in
-      record {
-        rec = d .rec;
-        tag-is = d .tag-is;
-        level-is = d .level-is;
-        lead-is = d .lead-is;
-        length-is = d .length-is;
-        size-is = d .size-is;
-        least = size-least (d .rec);
-        stands = stood s at bs (d .rec) h (d .stands);
-      }
+pub read-at : (s : List ℕ) (at : ℕ) → Bytes s → (r : Record) → aheadOf 1023 s at ≡ N.Record r → Read s at r
+read-at s at bs r e =
+    let d = here s at 1023 bs r e in
+    let k = stood s at bs (d .rec) (d .left) (d .stands) in
+    record {
+      rec = d .rec;
+      is = d .is;
+      tag-is = d .tag-is;
+      level-is = d .level-is;
+      length-is = d .length-is;
+      next-is = d .next-is;
+      body-end = d .body-end;
+      least = d .size-low;
+      body-is = ap₂ (λ (n b : ℕ). take n (drop b s)) (d .length-is) (d .body-is) ∙ k .body-is;
+      records = k .records ∙ ap (λ (i : ℕ). d .rec ∷ recordsIn (drop i s)) (sym (d .next-is));
+      stands = k;
+    }
 
-none-by : (s : List ℕ) (a : Stands) (f : Fault) → standsAt 1023 s ≡ a → frontOf a ≡ H.Refused f → recordsIn s ≡ []
-none-by s (fault g) f q e = in-stop s g q
-none-by s (whole r) f q e = absurd (let z : _≡_ {A = ℕ} 0 1 = cc in omega arith)
+-- and where it found none
+none-by : (s : List ℕ) (at : ℕ) (b : Bool) (a : Stands) (x : Ahead) → ltb at (length s) ≡ b → standsAt 1023 (drop at s) ≡ a → x ≡ cond b (aheadBy at a) N.End → NoRecord x
+    → recordsIn (drop at s) ≡ []
+none-by s at false a x t q e n = none-left s at (ltb-false at (length s) t)
+none-by s at true (fault f) x t q e n = in-stop (drop at s) f q
+none-by s at true (whole r) x t q e n = absurd (no-record at r (rw e at n))
 
-pub none-at : (s : List ℕ) (at : ℕ) (f : Fault) → frontOf (standsAt 1023 (take (length s - at) (drop at s))) ≡ H.Refused f → recordsIn (drop at s) ≡ []
-none-at s at f e = none-by (drop at s) (standsAt 1023 (drop at s)) f refl (ap (λ (l : List ℕ). frontOf (standsAt 1023 l)) (sym (part-rest s at)) ∙ e)
-
-pub none-left : (s : List ℕ) (at : ℕ) → length s ≤ at → recordsIn (drop at s) ≡ []
-none-left s at h = in-end (drop at s) (omega (arith, length-drop at s))
+pub none-at : (s : List ℕ) (at : ℕ) (x : Ahead) → x ≡ aheadOf 1023 s at → NoRecord x → recordsIn (drop at s) ≡ []
+unfolding aheadOf
+none-at s at x e n = none-by s at (ltb at (length s)) (standsAt 1023 (drop at s)) x refl refl e n
 
 -- ---- the records of a whole stream
 

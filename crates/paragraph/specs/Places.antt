@@ -1,11 +1,16 @@
 -- Where a paragraph's children stand, and the record that a fault names (document 01, the table's column 'Place').
-use Prim.Native.Nat.{ℕ, zero, suc, _+_, _≤_}
+use Prim.Native.Nat.{ℕ, zero, suc, _+_, _*_, _≤_, min}
 use mathlib.Core.Bool.{Bool, cond}
 use mathlib.Core.Option.{Option, none, some}
 use mathlib.Core.List.{List, [], _∷_}
 use lib.Dec.{eqb}
 use lib.ListN.{length, take, drop}
-use Rattle.records.specs.Records.{Rec, leadOf, size}
+use Rattle.records.specs.Kinds as kind
+use Rattle.records.specs.Records.{Rec, size}
+use Rattle.records.specs.Reading.{offset, recordAt}
+use Rattle.records.specs.declared.fault.Offset.{Offset}
+use Rattle.records.specs.declared.header.Record.{Record}
+use Rattle.text.specs.declared.Position.{Position}
 use Rattle.text.specs.Units.{units}
 use Rattle.text.specs.Answers.{judged}
 use Rattle.text.specs.declared.Judged.{Judged}
@@ -20,7 +25,6 @@ use Rattle.paragraph.specs.declared.fields.Owner.{Owner}
 use Rattle.paragraph.specs.declared.fields.Owner.the-variants as O
 use Rattle.paragraph.specs.declared.fields.Owned.{Owned}
 use Rattle.paragraph.specs.declared.fields.Owned.the-variants as K
-use Rattle.paragraph.specs.declared.children.Part.{Part}
 use Rattle.paragraph.specs.declared.children.Parts.{Parts}
 use Rattle.paragraph.specs.declared.children.Found.{Found}
 use Rattle.paragraph.specs.declared.children.Found.the-variants as P
@@ -34,10 +38,6 @@ soughtBy S.Passed tag t = S.Passed
 unfoldable pub sought : ℕ → ℕ → ℕ → ℕ → Side
 sought n tag t level = soughtBy (side n t level) tag t
 
--- the record r at a place
-abbrev pub partAt : ℕ → Rec → Part
-partAt at r = record { at = at; lead = leadOf (length (r .body)); length = length (r .body) }
-
 -- the nth child with a tag, among children at level n; the first of the records stands at `at`
 unfoldable pub foundIn : ℕ → ℕ → ℕ → ℕ → List Rec → Found
 foundIn n tag nth at [] = P.Nothing
@@ -45,7 +45,7 @@ foundIn n tag nth at (r ∷ rs) =
     elim (sought n tag (r .tag) (r .level)) [
       | S.Beyond ↦ P.Nothing
       | S.Passed ↦ foundIn n tag nth (at + size r) rs
-      | S.Owned ↦ elim nth [ zero ↦ P.At (partAt at r) | suc k ↦ foundIn n tag k (at + size r) rs ]
+      | S.Owned ↦ elim nth [ zero ↦ P.At (recordAt at r) | suc k ↦ foundIn n tag k (at + size r) rs ]
     ]
 
 -- a search's result by the bytes: the length of the body, and the body
@@ -53,8 +53,8 @@ abbrev pub lengthFound : Found → Option ℕ
 lengthFound (P.At p) = some (p .length)
 lengthFound P.Nothing = none
 
-abbrev pub bodyOf : List ℕ → Part → List ℕ
-bodyOf s p = take (p .length) (drop (p .at + p .lead) s)
+abbrev pub bodyOf : List ℕ → Record → List ℕ
+bodyOf s p = take (p .length) (drop (p .body .0) s)
 
 abbrev pub bodyFound : List ℕ → Found → Option (List ℕ)
 bodyFound s (P.At p) = some (bodyOf s p)
@@ -62,34 +62,34 @@ bodyFound s P.Nothing = none
 
 -- it is within the stream
 abbrev pub Inside : List ℕ → Found → Type 0
-Inside s (P.At p) = p .at + p .lead + p .length ≤ length s
+Inside s (P.At p) = p .next .0 ≤ length s
 Inside s P.Nothing = Unit {0}
 
 -- the four records that a paragraph has at most one of, and how many control headers it has
 unfoldable pub partsIn : ℕ → ℕ → List Rec → Parts
 partsIn n at rs =
     record {
-      text = foundIn n 67 0 at rs;
-      shapes = foundIn n 68 0 at rs;
-      layout = foundIn n 69 0 at rs;
-      marks = foundIn n 70 0 at rs;
+      text = foundIn n kind.text 0 at rs;
+      shapes = foundIn n kind.shapes 0 at rs;
+      layout = foundIn n kind.layout 0 at rs;
+      marks = foundIn n kind.marks 0 at rs;
       controls = length (controls (kids n rs));
     }
 
 -- what was found before, or this record where it is the one sought
-abbrev pub takenAs : Found → Bool → Part → Found
+abbrev pub takenAs : Found → Bool → Record → Found
 takenAs (P.At q) is p = P.At q
 takenAs P.Nothing is p = cond is (P.At p) P.Nothing
 
 -- the parts with one more child, by its tag
-unfoldable pub taken : Parts → ℕ → Part → Parts
-taken a tag p =
+unfoldable pub taken : Parts → Record → Parts
+taken a p =
     record {
-      text = takenAs (a .text) (eqb tag 67) p;
-      shapes = takenAs (a .shapes) (eqb tag 68) p;
-      layout = takenAs (a .layout) (eqb tag 69) p;
-      marks = takenAs (a .marks) (eqb tag 70) p;
-      controls = a .controls + cond (eqb tag 71) 1 0;
+      text = takenAs (a .text) (eqb (p .tag) kind.text) p;
+      shapes = takenAs (a .shapes) (eqb (p .tag) kind.shapes) p;
+      layout = takenAs (a .layout) (eqb (p .tag) kind.layout) p;
+      marks = takenAs (a .marks) (eqb (p .tag) kind.marks) p;
+      controls = a .controls + cond (eqb (p .tag) kind.controlHeader) 1 0;
     }
 
 abbrev pub lengthsFound : Parts → Lengths
@@ -109,23 +109,28 @@ headerFound P.Nothing = K.Lacking
 -- the next control header, behind k of them, is what a control owns; only a field's is looked for
 abbrev pub ownedBy : ℕ → ℕ → ℕ → List Rec → Owner → Owned
 ownedBy n k at rs O.Nobody = K.Nobody
-ownedBy n k at rs (O.Owner code) = cond (eqb code 3) (headerFound (foundIn n 71 k at rs)) K.Other
+ownedBy n k at rs (O.Owner code) = cond (eqb code 3) (headerFound (foundIn n kind.controlHeader k at rs)) K.Other
 
 -- what the walk of a text finds: an absent text has no extended controls
 abbrev pub textJudged : Found → List ℕ → Judged
 textJudged (P.At p) b = judged (units b)
 textJudged P.Nothing b = judgement.Sound 0
 
-abbrev pub placeFound : Found → ℕ
-placeFound (P.At p) = p .at
-placeFound P.Nothing = 0
+-- the place of what was found, or p where nothing was
+abbrev pub placeFound : ℕ → Found → ℕ
+placeFound p (P.At r) = r .at .0
+placeFound p P.Nothing = p
 
--- the place of the nth child with a tag, from the paragraph header on, which is the first of the records
-unfoldable pub childPlace : List Rec → ℕ → ℕ → ℕ
-childPlace [] tag nth = 0
-childPlace (r ∷ rs) tag nth = placeFound (foundIn (suc (r .level)) tag nth (size r) rs)
+-- the place of the nth child with a tag of the paragraph whose header is the first of the records and stands at `at`
+unfoldable pub childPlace : ℕ → List Rec → ℕ → ℕ → ℕ
+childPlace at [] tag nth = at
+childPlace at (r ∷ rs) tag nth = placeFound at (foundIn (suc (r .level)) tag nth (at + size r) rs)
 
--- the place of what a fault names, likewise
-abbrev pub placeOf : List Rec → Which → ℕ
-placeOf rs W.Header = 0
-placeOf rs (W.Child tag nth) = childPlace rs tag nth
+-- the place of what a fault names in that paragraph
+abbrev pub placeOf : ℕ → List Rec → Which → ℕ
+placeOf at rs W.Header = at
+placeOf at rs (W.Child tag nth) = childPlace at rs tag nth
+
+-- the place of a position of the text whose first byte stands at `text`: a unit is two bytes; a number has 64 bits
+abbrev pub unitPlace : Offset → Position → Offset
+unitPlace text p = offset (min 18446744073709551615 (text .0 + 2 * p .0))

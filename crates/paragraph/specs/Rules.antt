@@ -6,6 +6,7 @@ use mathlib.Core.List.{List, [], _∷_}
 use lib.Dec.{ltb, leb, eqb}
 use lib.ListN.{length, drop}
 use Rattle.numbers.specs.Little.{little}
+use Rattle.records.specs.Kinds as kind
 use Rattle.records.specs.Records.{Rec}
 use Rattle.records.specs.declared.fault.Fault.{Fault}
 use Rattle.records.specs.declared.fault.Fault.the-variants as F
@@ -61,10 +62,10 @@ pub record Lengths : Type 0 where
 unfoldable pub lengthsOf : List Rec → Lengths
 lengthsOf own =
     record {
-      text = lengthOf (child 67 own);
-      shapes = lengthOf (child 68 own);
-      layout = lengthOf (child 69 own);
-      marks = lengthOf (child 70 own);
+      text = lengthOf (child kind.text own);
+      shapes = lengthOf (child kind.shapes own);
+      layout = lengthOf (child kind.layout own);
+      marks = lengthOf (child kind.marks own);
     }
 
 -- a record is absent that is needed where its number is at least `least`
@@ -90,10 +91,10 @@ misfits number asked (some n) = eqb number 0 || not (eqb n asked)
 -- 11 in tag order; the layout's body is not examined
 unfoldable pub lengthFault : Counts → Lengths → Finding
 lengthFault c l =
-    guard (misfits (c .count) (2 * c .count) (l .text)) (ofChild 67 F.LengthWrong)
-    (guard (misfits (c .shapes) (8 * c .shapes) (l .shapes)) (ofChild 68 F.LengthWrong)
-    (guard (unwanted (c .lines) (l .layout)) (ofChild 69 F.LengthWrong)
-    (guard (misfits (c .marks) (12 * c .marks) (l .marks)) (ofChild 70 F.LengthWrong) G.Lawful)))
+    guard (misfits (c .count) (2 * c .count) (l .text)) (ofChild kind.text F.LengthWrong)
+    (guard (misfits (c .shapes) (8 * c .shapes) (l .shapes)) (ofChild kind.shapes F.LengthWrong)
+    (guard (unwanted (c .lines) (l .layout)) (ofChild kind.layout F.LengthWrong)
+    (guard (misfits (c .marks) (12 * c .marks) (l .marks)) (ofChild kind.marks F.LengthWrong) G.Lawful)))
 
 -- ---- 12 and 13, by the bodies
 
@@ -115,8 +116,8 @@ bytesIn (some b) = b
 -- 13 of shapes, then of marks
 unfoldable pub entryFault : ℕ → List ℕ → List ℕ → Finding
 entryFault count shapes marks =
-    guard (isSome (shapesFault count shapes)) (ofChild 68 F.EntriesWrong)
-    (guard (isSome (marksFault count marks)) (ofChild 70 F.EntriesWrong) G.Lawful)
+    guard (isSome (shapesFault count shapes)) (ofChild kind.shapes F.EntriesWrong)
+    (guard (isSome (marksFault count marks)) (ofChild kind.marks F.EntriesWrong) G.Lawful)
 
 -- ---- 14 and 15
 
@@ -142,7 +143,7 @@ fieldShort b = ltb (length b) 15 || ltb (length b) (15 + 2 * little 2 (drop 9 b)
 unfoldable pub fieldFault : ℕ → List ℕ → List (List ℕ) → Finding
 fieldFault nth [] bs = G.Lawful
 fieldFault nth (c ∷ cs) [] = G.Lawful
-fieldFault nth (c ∷ cs) (b ∷ bs) = guard (eqb c 3 && fieldShort b) (G.Breach F.FieldHeaderShort (W.Child 71 nth)) (fieldFault (nth + 1) cs bs)
+fieldFault nth (c ∷ cs) (b ∷ bs) = guard (eqb c 3 && fieldShort b) (G.Breach F.FieldHeaderShort (W.Child kind.controlHeader nth)) (fieldFault (nth + 1) cs bs)
 
 -- 14, then 15
 unfoldable pub controlFault : List ℕ → List (List ℕ) → Finding
@@ -153,14 +154,14 @@ controlFault us bs = guard (not (eqb (extendedCount us) (length bs))) (ofHeader 
 -- behind 10 and 11
 unfoldable pub bodyFault : ℕ → Option (List ℕ) → List ℕ → List ℕ → List (List ℕ) → Finding
 bodyFault count text shapes marks bs =
-    guard (textBroken text) (ofChild 67 F.TextRule) (orElse (entryFault count shapes marks) (controlFault (units (bytesIn text)) bs))
+    guard (textBroken text) (ofChild kind.text F.TextRule) (orElse (entryFault count shapes marks) (controlFault (units (bytesIn text)) bs))
 
 -- behind a header of 22 bytes or more
 unfoldable pub partsFault : Counts → List Rec → Finding
 partsFault c own =
     guard (absent c (lengthsOf own)) (ofHeader F.RecordAbsent)
     (orElse (lengthFault c (lengthsOf own))
-    (bodyFault (c .count) (child 67 own) (bytesIn (child 68 own)) (bytesIn (child 70 own)) (controls own)))
+    (bodyFault (c .count) (child kind.text own) (bytesIn (child kind.shapes own)) (bytesIn (child kind.marks own)) (controls own)))
 
 -- by the header's body
 unfoldable pub headFault : List ℕ → List Rec → Finding

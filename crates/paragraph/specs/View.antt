@@ -4,6 +4,7 @@ use mathlib.Core.Bool.{Bool, true, false, cond, _&&_}
 use mathlib.Core.Option.{Option, none, some}
 use mathlib.Core.List.{List, [], _∷_}
 use lib.Dec.{ltb, leb, eqb}
+use Rattle.records.specs.Kinds as kind
 use Rattle.records.specs.Records.{Rec}
 use Rattle.paragraph.specs.declared.view.Side.{Side}
 use Rattle.paragraph.specs.declared.view.Side.the-variants as S
@@ -11,7 +12,7 @@ use Rattle.paragraph.specs.declared.view.Side.the-variants as S
 -- how a record stands to a parent whose children are at level n, among the records behind that parent: behind its last descendant,
 -- an owned child (a direct child with a tag from 67 to 71), or something else below it
 unfoldable pub side : ℕ → ℕ → ℕ → Side
-side n tag level = cond (ltb level n) S.Beyond (cond (eqb level n && (leb 67 tag && leb tag 71)) S.Owned S.Passed)
+side n tag level = cond (ltb level n) S.Beyond (cond (eqb level n && (leb kind.text tag && leb tag kind.controlHeader)) S.Owned S.Passed)
 
 -- the owned children at level n, from the records behind their parent
 unfoldable pub keep : Side → Rec → List Rec → List Rec
@@ -34,7 +35,7 @@ view r rs = record { head = r .body; own = kids (suc (r .level)) rs }
 -- the paragraphs of a section, in stream order
 unfoldable pub views : List Rec → List View
 views [] = []
-views (r ∷ rs) = cond (eqb (r .tag) 66) (view r rs ∷ views rs) (views rs)
+views (r ∷ rs) = cond (eqb (r .tag) kind.paragraphHeader) (view r rs ∷ views rs) (views rs)
 
 -- the body of the first child with a tag
 unfoldable pub child : ℕ → List Rec → Option (List ℕ)
@@ -44,4 +45,4 @@ child t (r ∷ k) = cond (eqb (r .tag) t) (some (r .body)) (child t k)
 -- the control headers among the children, in stream order: the nth belongs to the nth extended control
 unfoldable pub controls : List Rec → List (List ℕ)
 controls [] = []
-controls (r ∷ k) = cond (eqb (r .tag) 71) (r .body ∷ controls k) (controls k)
+controls (r ∷ k) = cond (eqb (r .tag) kind.controlHeader) (r .body ∷ controls k) (controls k)

@@ -2,9 +2,11 @@
 use crate::view::Side;
 use crate::view::stands_to;
 use numbers::part;
-use records::Front;
+use records::Ahead;
 use records::Kind;
-use records::first;
+use records::Offset;
+use records::Record;
+use records::record_at;
 ghost use mathlib.Core.Path.{_≡_};
 ghost use mathlib.Core.Bool.{cond};
 ghost use Prim.Native.Nat.{_≤_, _<_};
@@ -13,15 +15,8 @@ ghost use Rattle.paragraph.specs.Stream.{recordsIn};
 ghost use Rattle.paragraph.specs.Rules.{bytesIn};
 ghost use Rattle.paragraph.specs.Places.{sought, foundIn, takenAs, taken, partsIn, bodyOf, bodyFound};
 
-// A record: the place of its header, the header's bytes and the body's.
-pub struct Part {
-    pub at: usize,
-    pub lead: usize,
-    pub length: usize,
-}
-
 pub enum Found {
-    At(Part),
+    At(Record),
     Nothing,
 }
 
@@ -43,36 +38,29 @@ fn seeks(n: u32, tag: u32, other: u32, level: u32) -> Side
 }
 
 // The nth child with a tag, among children at level n; the records behind the parent begin at `from`.
-pub fn find(s: &[u8], from: usize, n: u32, tag: u32, nth: usize) -> Found
-    ensures { λ r. ⌜ r ≡ foundIn n tag nth from (recordsIn (drop from (now (s .entry)))) ⌝ }
+pub fn find(s: &[u8], from: Offset, n: u32, tag: u32, nth: usize) -> Found
+    ensures { λ r. ⌜ r ≡ foundIn n tag nth (from .0) (recordsIn (drop (from .0) (now (s .entry)))) ⌝ }
 {
     let mut at = from;
     let mut left = nth;
-    while at < s.len() {
-        match first(&s[at..], 1023) {
-            Front::Record(h) => {
-                let lead = h.lead;
-                let length = h.length;
-                match seeks(n, tag, h.tag, h.level) {
-                    Side::Beyond => {
-                        return Found::Nothing;
-                    }
-                    Side::Owned => {
-                        if left == 0 {
-                            return Found::At(Part { at, lead, length });
-                        }
-                        left = left - 1;
-                    }
-                    Side::Passed => {}
-                }
-                at = at + lead + length;
-            }
-            Front::Refused(_) => {
+    loop {
+        let Ahead::Record(r) = record_at(s, at, 1023) else {
+            return Found::Nothing;
+        };
+        match seeks(n, tag, r.tag, r.level) {
+            Side::Beyond => {
                 return Found::Nothing;
             }
+            Side::Owned => {
+                if left == 0 {
+                    return Found::At(r);
+                }
+                left = left - 1;
+            }
+            Side::Passed => {}
         }
+        at = r.next;
     }
-    Found::Nothing
 }
 
 // The four records that a paragraph has at most one of, and how many control headers it has.
@@ -85,7 +73,7 @@ pub struct Parts {
 }
 
 // What was found before, or this record where it is the one sought.
-fn take_as(f: Found, is: bool, p: Part) -> Found
+fn take_as(f: Found, is: bool, p: Record) -> Found
     ensures { λ r. ⌜ r ≡ takenAs f is p ⌝ }
 {
     match f {
@@ -101,10 +89,11 @@ fn one_if(is: bool) -> usize
 }
 
 // The parts with one more child, by its tag.
-fn take_child(parts: Parts, tag: u32, p: Part) -> Parts
+fn take_child(parts: Parts, p: Record) -> Parts
     requires { ⌜ parts .controls < 18446744073709551615 ⌝ }
-    ensures { λ r. ⌜ r ≡ taken parts tag p ⌝ }
+    ensures { λ r. ⌜ r ≡ taken parts p ⌝ }
 {
+    let tag = p.tag;
     let text = parts.text;
     let shapes = parts.shapes;
     let layout = parts.layout;
@@ -119,8 +108,8 @@ fn take_child(parts: Parts, tag: u32, p: Part) -> Parts
 }
 
 // All of them in one pass over what stands below the paragraph.
-pub fn find_parts(s: &[u8], from: usize, n: u32) -> Parts
-    ensures { λ r. ⌜ r ≡ partsIn n from (recordsIn (drop from (now (s .entry)))) ⌝ }
+pub fn find_parts(s: &[u8], from: Offset, n: u32) -> Parts
+    ensures { λ r. ⌜ r ≡ partsIn n (from .0) (recordsIn (drop (from .0) (now (s .entry)))) ⌝ }
 {
     let mut parts = Parts {
         text: Found::Nothing,
@@ -130,39 +119,29 @@ pub fn find_parts(s: &[u8], from: usize, n: u32) -> Parts
         controls: 0,
     };
     let mut at = from;
-    while at < s.len() {
-        match first(&s[at..], 1023) {
-            Front::Record(h) => {
-                let lead = h.lead;
-                let length = h.length;
-                match stands_to(n, h.tag, h.level) {
-                    Side::Beyond => {
-                        return parts;
-                    }
-                    Side::Owned => {
-                        parts = take_child(parts, h.tag, Part { at, lead, length });
-                    }
-                    Side::Passed => {}
-                }
-                at = at + lead + length;
-            }
-            Front::Refused(_) => {
+    loop {
+        let Ahead::Record(r) = record_at(s, at, 1023) else {
+            return parts;
+        };
+        match stands_to(n, r.tag, r.level) {
+            Side::Beyond => {
                 return parts;
             }
+            Side::Owned => {
+                parts = take_child(parts, r);
+            }
+            Side::Passed => {}
         }
+        at = r.next;
     }
-    parts
 }
 
 // The bytes of a record's body, as far as they are there.
-pub fn body<'a>(s: &'a [u8], p: Part) -> &'a [u8]
-    ensures { λ r. ⌜ now r ≡ bodyOf (now (s .entry)) p ⌝ }
+pub fn body<'a>(s: &'a [u8], r: Record) -> &'a [u8]
+    ensures { λ b. ⌜ now b ≡ bodyOf (now (s .entry)) r ⌝ }
 {
-    let at = p.at;
-    if s.len() < at {
-        return &s[0..0];
-    }
-    part(&s[at..], p.lead, p.length)
+    let from = r.body;
+    part(s, from.0, r.length)
 }
 
 // The bytes of a body; an absent record has none.

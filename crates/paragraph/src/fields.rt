@@ -1,16 +1,18 @@
 // Controls and the control headers that they own.
 use crate::children::Found;
-use crate::children::Part;
 use crate::children::find;
 use numbers::number16;
 use records::Kind;
+use records::Offset;
+use records::Record;
 use text::Class;
+use text::Position;
 use text::Standing;
 ghost use mathlib.Core.Path.{_≡_};
 ghost use lib.ListN.{drop};
 ghost use Rattle.paragraph.specs.Stream.{recordsIn};
 ghost use Rattle.paragraph.specs.Rules.{ownerOf, fieldShort};
-ghost use Rattle.paragraph.specs.Places.{ownedBy};
+ghost use Rattle.paragraph.specs.Places.{ownedBy, unitPlace};
 
 // What an extended control owns: a control header, by the control's code.
 pub enum Owner {
@@ -35,6 +37,19 @@ fn owner_of(what: Standing) -> Owner
     }
 }
 
+// The place of a position of the text whose first byte stands at `text`. Only here does a position become a place; a sum that no
+// number holds is given as the largest.
+pub fn unit_place(text: Offset, position: Position) -> Offset
+    ensures { λ r. ⌜ r ≡ unitPlace text position ⌝ }
+{
+    let first = text.0;
+    let units = position.0;
+    if (18446744073709551615 - first) / 2 < units {
+        return Offset(18446744073709551615);
+    }
+    Offset(first + 2 * units)
+}
+
 // A field's control header is too short for its command.
 pub fn field_short(body: &[u8]) -> bool
     ensures { λ r. ⌜ r ≡ fieldShort (now (body .entry)) ⌝ }
@@ -54,12 +69,12 @@ pub enum Owned {
     Other,
     // There is none left.
     Lacking,
-    Header(Part),
+    Header(Record),
 }
 
 // What stands in the text owns the next control header from `at` on, behind `skipped` of them.
-pub fn owned_header(s: &[u8], at: usize, n: u32, skipped: usize, what: Standing) -> Owned
-    ensures { λ r. ⌜ r ≡ ownedBy n skipped at (recordsIn (drop at (now (s .entry)))) (ownerOf what) ⌝ }
+pub fn owned_header(s: &[u8], at: Offset, n: u32, skipped: usize, what: Standing) -> Owned
+    ensures { λ r. ⌜ r ≡ ownedBy n skipped (at .0) (recordsIn (drop (at .0) (now (s .entry)))) (ownerOf what) ⌝ }
 {
     match owner_of(what) {
         Owner::Nobody => Owned::Nobody,

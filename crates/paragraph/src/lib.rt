@@ -6,7 +6,6 @@ mod finding;
 mod view;
 
 pub use children::Found;
-pub use children::Part;
 pub use children::Parts;
 pub use children::body;
 pub use children::bytes;
@@ -19,6 +18,7 @@ pub use fields::Owned;
 pub use fields::Owner;
 pub use fields::field_short;
 pub use fields::owned_header;
+pub use fields::unit_place;
 pub use finding::Counts;
 pub use finding::Finding;
 pub use finding::Which;

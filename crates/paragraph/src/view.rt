@@ -1,4 +1,5 @@
 // How the records behind a paragraph header stand to it.
+use records::Kind;
 ghost use mathlib.Core.Path.{_≡_};
 ghost use Rattle.paragraph.specs.View.{side};
 
@@ -21,10 +22,10 @@ pub fn stands_to(n: u32, tag: u32, level: u32) -> Side
     if n < level {
         return Side::Passed;
     }
-    if tag < 67 {
+    if tag < Kind::TEXT {
         return Side::Passed;
     }
-    if 71 < tag {
+    if Kind::CONTROL_HEADER < tag {
         return Side::Passed;
     }
     Side::Owned

@@ -494,7 +494,12 @@ module _ (s : List ℕ) (at cap : ℕ) where
 abbrev pub NoRecord : Ahead → Type 0
 NoRecord x = OneOf (1 ∷ 2 ∷ []) (tagOf ahead.the-type x)
 
+pub no-record : (at : ℕ) (r : Rec) → NoRecord (N.Record (recordAt at r)) → ⊥
+no-record at r (inl z) = let y : _≡_ {A = ℕ} 0 1 = z in omega arith
+no-record at r (inr z) = let y : _≡_ {A = ℕ} 0 2 = z in omega arith
+
 pub none-here : (s : List ℕ) (at cap : ℕ) (x : Ahead) → x ≡ aheadOf cap s at → NoRecord x → readFrom cap 0 (drop at s) .recs ≡ []
-none-here s at cap (N.Record r) e n = absurd (elim n [ inl z ↦ let y : _≡_ {A = ℕ} 0 1 = z in omega arith | inr z ↦ let y : _≡_ {A = ℕ} 0 2 = z in omega arith ])
+none-here s at cap (N.Record r) e (inl z) = absurd (let y : _≡_ {A = ℕ} 0 1 = z in omega arith)
+none-here s at cap (N.Record r) e (inr z) = absurd (let y : _≡_ {A = ℕ} 0 2 = z in omega arith)
 none-here s at cap (N.Refused f) e n = ap (λ (y : Read). y .recs) (stops-here s at cap f (sym e))
 none-here s at cap N.End e n = ap (λ (y : Read). y .recs) (ends-here s at cap (sym e))
