@@ -13,14 +13,12 @@ use lib.ListN.{length, take, drop}
 use borrow.Author.Tests.{lt-ltb, le-ltb, eq-eqb, ne-eqb}
 use Rattle.numbers.specs.Little.{Bytes}
 use Rattle.numbers.proofs.LittleLaws.{part-rest}
-use Rattle.records.specs.Records.{Rec, leadOf, size}
-use Rattle.records.specs.Reading.{standsAt, frontOf}
+use Rattle.records.specs.Records.{Rec}
+use Rattle.records.specs.Reading.{offset}
+use Rattle.records.specs.declared.fault.Offset.{Offset}
 use Rattle.records.specs.declared.fault.Fault.{Fault}
 use Rattle.records.specs.declared.fault.Fault.the-variants as F
-use Rattle.records.specs.declared.header.Header.{Header}
-use Rattle.records.specs.declared.header.Front.{Front}
-use Rattle.records.specs.declared.header.Front.the-variants as H
-use Rattle.records.proofs.HeaderLaws.{first-cut}
+use Rattle.records.specs.declared.header.Record.{Record}
 use Rattle.text.specs.Units.{units}
 use Rattle.text.specs.Walk.{Token, tokens, walk, isExtended, extendedIn, extendedCount, fault, faultAt, textFault}
 use Rattle.text.specs.Answers.{verdict, judged}
@@ -34,8 +32,7 @@ use Rattle.text.specs.declared.Judged.the-variants as judgement
 use Rattle.paragraph.specs.View.{kids, view, child, controls}
 use Rattle.paragraph.specs.Stream.{recordsIn}
 use Rattle.paragraph.specs.Rules.{guard, orElse, ofHeader, ofChild, Lengths, lengthOf, lengthsOf, absent, lengthFault, isSome, textBroken, bytesIn, entryFault, ownerOf, codeBefore, codesIn, fieldFault, controlFault, bodyFault, countsOf, partsFault, headFault, paragraphFault, firstFault}
-use Rattle.paragraph.specs.Places.{foundIn, lengthFound, bodyFound, partsIn, lengthsFound, textJudged, placeFound, childPlace}
-use Rattle.paragraph.specs.declared.children.Part.{Part}
+use Rattle.paragraph.specs.Places.{foundIn, lengthFound, bodyOf, bodyFound, partsIn, lengthsFound, textJudged, placeFound, childPlace}
 use Rattle.paragraph.specs.declared.children.Parts.{Parts}
 use Rattle.paragraph.specs.declared.children.Found.{Found}
 use Rattle.paragraph.specs.declared.children.Found.the-variants as P
@@ -44,9 +41,8 @@ use Rattle.paragraph.specs.declared.finding.Counts.{Counts}
 use Rattle.paragraph.specs.declared.finding.Which.{Which}
 use Rattle.paragraph.specs.declared.finding.Finding.{Finding}
 use Rattle.paragraph.specs.declared.finding.Finding.the-variants as G
-use Rattle.paragraph.proofs.StreamLaws.{Stood, stood-of, Read, read-at, none-at}
-use Rattle.paragraph.proofs.FindLaws.{found-beyond, found-passed, found-here, found-later}
-use Rattle.paragraph.proofs.BodyLaws.{Ways, ways, beyond, owned, other, passed, child-found, length-found}
+use Rattle.paragraph.proofs.StreamLaws.{Read}
+use Rattle.paragraph.proofs.BodyLaws.{child-found, length-found}
 use Rattle.judgement.proofs.RuleLaws.{guard-taken, guard-left, else-next}
 
 -- a breach stays
@@ -214,77 +210,32 @@ module _ (head : List ℕ) (own : List Rec) where
   unfolding headFault
   head-parts y c h e q = guard-left _ (le-ltb (length head) 22 h) (q ∙ ap (λ (k : Counts). partsFault k own) e)
 
--- ---- the paragraph at the front of a stream
+-- ---- the paragraph whose header stands at a place
 
-pub read-front : (s : List ℕ) → Bytes s → (k : Header) → frontOf (standsAt 1023 s) ≡ H.Record k → Read s 0 k
-read-front s bs k e =
-    elim (decLe (length s) 0) [
-      | yes h ↦
-          absurd
-          (let z : H.Refused F.HeaderCut ≡ H.Record k = first-cut 1023 s (omega arith) ∙ e in
-          let y : _≡_ {A = ℕ} 0 1 = cc in
-          omega arith)
-      | no h ↦ read-at s 0 bs (lt-of-not-le h) k (ap (λ (l : List ℕ). frontOf (standsAt 1023 l)) (part-rest s 0) ∙ e)
-    ]
+module _ (s : List ℕ) (at : ℕ) {r : Record} (d : Read s at r) where
+  next-level : r .level + 1 ≡ suc (d .rec .level)
+  next-level = omega (arith, d .level-is)
 
-pub none-front : (s : List ℕ) (f : Fault) → frontOf (standsAt 1023 s) ≡ H.Refused f → recordsIn s ≡ []
-none-front s f e = none-at s 0 f (ap (λ (l : List ℕ). frontOf (standsAt 1023 l)) (part-rest s 0) ∙ e)
-
-module _ (s : List ℕ) (k : Header) (d : Read s 0 k) where
-  from-is : 0 + size (d .rec) ≡ k .lead + k .length
-  from-is = omega (arith, d .size-is)
-
-  front-records : recordsIn s ≡ d .rec ∷ recordsIn (drop (k .lead + k .length) s)
-  front-records = d .stands .records ∙ ap (λ (e : ℕ). d .rec ∷ recordsIn (drop e s)) from-is
-
-  front-body : take (k .lead + k .length - k .lead) (drop (k .lead) s) ≡ d .rec .body
-  front-body =
-      let a : k .lead + k .length - k .lead ≡ length (d .rec .body) = omega (arith, d .length-is) in
-      let b : k .lead ≡ 0 + leadOf (length (d .rec .body)) = omega (arith, d .lead-is) in
-      ap₂ (λ (x y : ℕ). take x (drop y s)) a b ∙ d .stands .body-is
-
-  pub front-judged : (y : Finding)
-      → y ≡ headFault (take (k .lead + k .length - k .lead) (drop (k .lead) s)) (kids (k .level + 1) (recordsIn (drop (k .lead + k .length) s)))
-      → y ≡ firstFault (recordsIn s)
+  pub front-judged : (y : Finding) → y ≡ headFault (bodyOf s r) (kids (r .level + 1) (recordsIn (drop (r .next .0) s)))
+      → y ≡ firstFault (recordsIn (drop at s))
   unfolding firstFault paragraphFault view
   front-judged y e =
-      let n : k .level + 1 ≡ suc (d .rec .level) = omega (arith, d .level-is) in
       e
-      ∙ ap₂ (λ (b : List ℕ) (m : ℕ). headFault b (kids m (recordsIn (drop (k .lead + k .length) s)))) front-body n
-      ∙ ap firstFault (sym front-records)
+      ∙ ap₂ (λ (b : List ℕ) (m : ℕ). headFault b (kids m (recordsIn (drop (r .next .0) s)))) (d .body-is) next-level
+      ∙ ap firstFault (sym (d .records))
 
-  pub front-place : (tag nth x : ℕ) → x ≡ placeFound (foundIn (k .level + 1) tag nth (k .lead + k .length) (recordsIn (drop (k .lead + k .length) s)))
-      → x ≡ childPlace (recordsIn s) tag nth
+  pub front-place : (tag nth : ℕ) (x : Offset) → x ≡ offset (placeFound at (foundIn (r .level + 1) tag nth (r .next .0) (recordsIn (drop (r .next .0) s))))
+      → x ≡ offset (childPlace at (recordsIn (drop at s)) tag nth)
   unfolding childPlace
   front-place tag nth x e =
-      let n : k .level + 1 ≡ suc (d .rec .level) = omega (arith, d .level-is) in
-      let z : k .lead + k .length ≡ size (d .rec) = d .size-is in
       e
-      ∙ ap₂ (λ (m a : ℕ). placeFound (foundIn m tag nth a (recordsIn (drop (k .lead + k .length) s)))) n z
-      ∙ ap (λ (l : List Rec). childPlace l tag nth) (sym front-records)
+      ∙ ap₂ (λ (m a : ℕ). offset (placeFound at (foundIn m tag nth a (recordsIn (drop (r .next .0) s))))) next-level (d .next-is)
+      ∙ ap (λ (l : List Rec). offset (childPlace at l tag nth)) (sym (d .records))
 
-pub front-none : (s : List ℕ) → recordsIn s ≡ [] → G.Lawful ≡ firstFault (recordsIn s)
+pub front-none : (s : List ℕ) (at : ℕ) → recordsIn (drop at s) ≡ [] → G.Lawful ≡ firstFault (recordsIn (drop at s))
 unfolding firstFault
-front-none s e = rw e
+front-none s at e = rw e
 
-pub place-none : (s : List ℕ) (tag nth : ℕ) → recordsIn s ≡ [] → 0 ≡ childPlace (recordsIn s) tag nth
+pub place-none : (s : List ℕ) (at tag nth : ℕ) → recordsIn (drop at s) ≡ [] → at ≡ childPlace at (recordsIn (drop at s)) tag nth
 unfolding childPlace
-place-none s tag nth e = rw e
-
--- what a search finds is in the stream
-module _ (s : List ℕ) (bs : Bytes s) (n tag : ℕ) where
-  place-by : (rs : List Rec) (nth at : ℕ) → recordsIn (drop at s) ≡ rs → placeFound (foundIn n tag nth at rs) ≤ length s
-  unfolding foundIn
-  place-by [] nth at e = omega arith
-  place-by (r ∷ rs) nth at e =
-      go nth (ways n tag r) (stood-of s at bs r rs e .0) (λ m. place-by rs m (at + size r) (stood-of s at bs r rs e .1))
-    where
-      go : (m : ℕ) → Ways n tag r → Stood s at r → ((k : ℕ) → placeFound (foundIn n tag k (at + size r) rs) ≤ length s) → placeFound (foundIn n tag m at (r ∷ rs)) ≤ length s
-      go m (beyond w o) d rest = rw (found-beyond n tag at r rs m w) (omega arith)
-      go zero (owned w o t) d rest = rw (found-here n tag at r rs w) (omega (arith, d .some-left))
-      go (suc m) (owned w o t) d rest = rw (found-later n tag at r rs m w) (rest m)
-      go m (other w o t) d rest = rw (found-passed n tag at r rs m w) (rest m)
-      go m (passed w o) d rest = rw (found-passed n tag at r rs m w) (rest m)
-
-  pub place-inside : (nth at x : ℕ) → x ≡ placeFound (foundIn n tag nth at (recordsIn (drop at s))) → x ≤ length s
-  place-inside nth at x e = omega (arith, place-by (recordsIn (drop at s)) nth at refl)
+place-none s at tag nth e = rw e

@@ -13,7 +13,7 @@ use Rattle.paragraph.specs.Rules.{countsOf, guard, orElse, ofChild, entryFault,
 use Rattle.paragraph.specs.Entries.{entriesOf, shapesFault, marksFault}
 use Rattle.paragraph.specs.Places.{lengthFound}
 use Rattle.records.specs.declared.fault.Fault.the-variants as F
-use Rattle.paragraph.specs.declared.children.Part.{Part}
+use Rattle.records.specs.declared.header.Record.{Record}
 use Rattle.paragraph.specs.declared.children.Found.{Found}
 use Rattle.paragraph.specs.declared.children.Found.the-variants as P
 use Rattle.paragraph.specs.declared.entries.Entries.{Entries}
@@ -49,10 +49,10 @@ else-first (G.Breach f w) rest h = refl
 pub lacks-none : (least number : ℕ) (f : Found) → f ≡ P.Nothing → leb least number ≡ lacks least number (lengthFound f)
 lacks-none least number f e = rw e
 
-pub unwanted-there : (number : ℕ) (f : Found) (p : Part) → f ≡ P.At p → eqb number 0 ≡ unwanted number (lengthFound f)
+pub unwanted-there : (number : ℕ) (f : Found) (p : Record) → f ≡ P.At p → eqb number 0 ≡ unwanted number (lengthFound f)
 unwanted-there number f p e = rw e
 
-pub misfits-there : (number asked : ℕ) (f : Found) (p : Part) → f ≡ P.At p → (eqb number 0 || not (eqb (p .length) asked)) ≡ misfits number asked (lengthFound f)
+pub misfits-there : (number asked : ℕ) (f : Found) (p : Record) → f ≡ P.At p → (eqb number 0 || not (eqb (p .length) asked)) ≡ misfits number asked (lengthFound f)
 misfits-there number asked f p e = rw e
 
 -- ---- by what a judge of entries answered

@@ -18,10 +18,11 @@ use paragraph::field_short;
 use paragraph::find;
 use paragraph::find_parts;
 use paragraph::owned_header;
+use records::Ahead;
 use records::Fault;
-use records::Front;
 use records::Kind;
-use records::first;
+use records::Offset;
+use records::record_at;
 use text::Cursor;
 use text::Judged;
 use text::Step;
@@ -29,6 +30,8 @@ ghost use mathlib.Core.Path.{_≡_};
 ghost use mathlib.Core.Option.{none};
 ghost use Prim.Native.Nat.{_≤_};
 ghost use lib.ListN.{length, drop};
+ghost use Rattle.records.specs.Kinds as kind;
+ghost use Rattle.records.specs.Reading.{offset};
 ghost use Rattle.text.specs.Units.{units};
 ghost use Rattle.text.specs.Walk.{tokens, faultAt, extendedCount};
 ghost use Rattle.paragraph.specs.View.{kids, controls};
@@ -58,7 +61,7 @@ fn counts(head: &[u8]) -> Counts
 
 // 15 names the nth control header.
 fn header_short(nth: usize) -> Finding
-    ensures { λ r. ⌜ r ≡ G.Breach F.FieldHeaderShort (W.Child 71 nth) ⌝ }
+    ensures { λ r. ⌜ r ≡ G.Breach F.FieldHeaderShort (W.Child kind.controlHeader nth) ⌝ }
 {
     Finding::Breach {
         fault: Fault::FieldHeaderShort,
@@ -71,9 +74,9 @@ fn header_short(nth: usize) -> Finding
 
 // 15: the text's extended controls and the control headers side by side. The text is sound. Of the headers behind `at` the first
 // `skipped` belong to controls that are no fields.
-fn field_fault(s: &[u8], from: usize, n: u32, text: &[u8]) -> Finding
+fn field_fault(s: &[u8], from: Offset, n: u32, text: &[u8]) -> Finding
     requires { ⌜ faultAt (units (now text)) 0 ≡ none ⌝ }
-    ensures { λ r. ⌜ r ≡ rules.fieldFault 0 (rules.codesIn (tokens (units (now (text .entry))))) (controls (kids n (recordsIn (drop from (now (s .entry)))))) ⌝ }
+    ensures { λ r. ⌜ r ≡ rules.fieldFault 0 (rules.codesIn (tokens (units (now (text .entry))))) (controls (kids n (recordsIn (drop (from .0) (now (s .entry)))))) ⌝ }
 {
     let mut cursor = Cursor::start();
     let mut at = from;
@@ -91,11 +94,10 @@ fn field_fault(s: &[u8], from: usize, n: u32, text: &[u8]) -> Finding
                         nth = nth + 1;
                     }
                     Owned::Header(p) => {
-                        let end = p.at + p.lead + p.length;
                         if field_short(body(s, p)) {
                             return header_short(nth);
                         }
-                        at = end;
+                        at = p.next;
                         skipped = 0;
                         nth = nth + 1;
                     }
@@ -117,7 +119,7 @@ fn field_fault(s: &[u8], from: usize, n: u32, text: &[u8]) -> Finding
 // 14, then 15. The text is sound and has so many extended controls, the paragraph so many control headers.
 fn control_fault(
     s: &[u8],
-    from: usize,
+    from: Offset,
     n: u32,
     headers: usize,
     text: &[u8],
@@ -125,8 +127,8 @@ fn control_fault(
 ) -> Finding
     requires { ⌜ faultAt (units (now text)) 0 ≡ none ⌝ }
     requires { ⌜ extended ≡ extendedCount (units (now text)) ⌝ }
-    requires { ⌜ headers ≡ length (controls (kids n (recordsIn (drop from (now s))))) ⌝ }
-    ensures { λ r. ⌜ r ≡ rules.controlFault (units (now (text .entry))) (controls (kids n (recordsIn (drop from (now (s .entry)))))) ⌝ }
+    requires { ⌜ headers ≡ length (controls (kids n (recordsIn (drop (from .0) (now s))))) ⌝ }
+    ensures { λ r. ⌜ r ≡ rules.controlFault (units (now (text .entry))) (controls (kids n (recordsIn (drop (from .0) (now (s .entry)))))) ⌝ }
 {
     if headers != extended {
         return of_header(Fault::ControlsUnmatched);
@@ -148,9 +150,9 @@ fn judge_text(f: Found, text: &[u8]) -> Judged
 }
 
 // 12 to 15.
-fn body_fault(s: &[u8], from: usize, n: u32, count: u32, p: Parts) -> Finding
-    requires { ⌜ p .controls ≡ length (controls (kids n (recordsIn (drop from (now s))))) ⌝ }
-    ensures { λ r. ⌜ r ≡ rules.bodyFault count (bodyFound (now (s .entry)) (p .text)) (rules.bytesIn (bodyFound (now (s .entry)) (p .shapes))) (rules.bytesIn (bodyFound (now (s .entry)) (p .marks))) (controls (kids n (recordsIn (drop from (now (s .entry)))))) ⌝ }
+fn body_fault(s: &[u8], from: Offset, n: u32, count: u32, p: Parts) -> Finding
+    requires { ⌜ p .controls ≡ length (controls (kids n (recordsIn (drop (from .0) (now s))))) ⌝ }
+    ensures { λ r. ⌜ r ≡ rules.bodyFault count (bodyFound (now (s .entry)) (p .text)) (rules.bytesIn (bodyFound (now (s .entry)) (p .shapes))) (rules.bytesIn (bodyFound (now (s .entry)) (p .marks))) (controls (kids n (recordsIn (drop (from .0) (now (s .entry)))))) ⌝ }
 {
     let text = p.text;
     let shapes = p.shapes;
@@ -168,8 +170,8 @@ fn body_fault(s: &[u8], from: usize, n: u32, count: u32, p: Parts) -> Finding
 }
 
 // 10 to 15.
-fn parts_fault(s: &[u8], from: usize, n: u32, c: Counts) -> Finding
-    ensures { λ r. ⌜ r ≡ rules.partsFault c (kids n (recordsIn (drop from (now (s .entry))))) ⌝ }
+fn parts_fault(s: &[u8], from: Offset, n: u32, c: Counts) -> Finding
+    ensures { λ r. ⌜ r ≡ rules.partsFault c (kids n (recordsIn (drop (from .0) (now (s .entry))))) ⌝ }
 {
     let p = find_parts(s, from, n);
     let count = c.count;
@@ -183,8 +185,8 @@ fn parts_fault(s: &[u8], from: usize, n: u32, c: Counts) -> Finding
 }
 
 // 8 to 15, by the header's body and the records from `from` on.
-fn head_fault(s: &[u8], from: usize, n: u32, head: &[u8]) -> Finding
-    ensures { λ r. ⌜ r ≡ rules.headFault (now (head .entry)) (kids n (recordsIn (drop from (now (s .entry))))) ⌝ }
+fn head_fault(s: &[u8], from: Offset, n: u32, head: &[u8]) -> Finding
+    ensures { λ r. ⌜ r ≡ rules.headFault (now (head .entry)) (kids n (recordsIn (drop (from .0) (now (s .entry))))) ⌝ }
 {
     if head.len() < 22 {
         return of_header(Fault::ParagraphHeaderShort);
@@ -192,49 +194,42 @@ fn head_fault(s: &[u8], from: usize, n: u32, head: &[u8]) -> Finding
     parts_fault(s, from, n, counts(head))
 }
 
-// The paragraph whose header stands at the front of s.
-pub fn judge_paragraph(s: &[u8]) -> Finding
-    ensures { λ r. ⌜ r ≡ rules.firstFault (recordsIn (now (s .entry))) ⌝ }
+// The paragraph whose header stands at a place.
+pub fn judge_paragraph(s: &[u8], at: Offset) -> Finding
+    ensures { λ r. ⌜ r ≡ rules.firstFault (recordsIn (drop (at .0) (now (s .entry)))) ⌝ }
 {
-    match first(s, 1023) {
-        Front::Record(h) => {
-            let lead = h.lead;
-            let from = lead + h.length;
-            let n = h.level + 1;
-            head_fault(s, from, n, &s[lead..from])
-        }
-        Front::Refused(_) => Finding::Lawful,
-    }
+    let Ahead::Record(r) = record_at(s, at, 1023) else {
+        return Finding::Lawful;
+    };
+    let behind = r.next;
+    head_fault(s, behind, r.level + 1, body(s, r))
 }
 
-fn place_found(f: Found) -> usize
-    ensures { λ r. ⌜ r ≡ placeFound f ⌝ }
+fn place_found(other: Offset, f: Found) -> Offset
+    ensures { λ r. ⌜ r ≡ offset (placeFound (other .0) f) ⌝ }
 {
     match f {
-        Found::At(p) => p.at,
-        Found::Nothing => 0,
+        Found::At(r) => r.at,
+        Found::Nothing => other,
     }
 }
 
-fn child_place(s: &[u8], tag: u32, nth: usize) -> usize
-    ensures { λ r. ⌜ (r ≡ childPlace (recordsIn (now (s .entry))) tag nth) × (r ≤ length (now (s .entry))) ⌝ }
+fn child_place(s: &[u8], at: Offset, tag: u32, nth: usize) -> Offset
+    ensures { λ r. ⌜ r ≡ offset (childPlace (at .0) (recordsIn (drop (at .0) (now (s .entry)))) tag nth) ⌝ }
 {
-    match first(s, 1023) {
-        Front::Record(h) => {
-            let from = h.lead + h.length;
-            let n = h.level + 1;
-            place_found(find(s, from, n, tag, nth))
-        }
-        Front::Refused(_) => 0,
-    }
+    let Ahead::Record(r) = record_at(s, at, 1023) else {
+        return at;
+    };
+    let behind = r.next;
+    place_found(at, find(s, behind, r.level + 1, tag, nth))
 }
 
-// The place of what a fault names, in the paragraph whose header stands at the front of s.
-pub fn place_in(s: &[u8], which: Which) -> usize
-    ensures { λ r. ⌜ (r ≡ placeOf (recordsIn (now (s .entry))) which) × (r ≤ length (now (s .entry))) ⌝ }
+// The place of what a fault names, in the paragraph whose header stands at a place.
+pub fn place_in(s: &[u8], at: Offset, which: Which) -> Offset
+    ensures { λ r. ⌜ r ≡ offset (placeOf (at .0) (recordsIn (drop (at .0) (now (s .entry)))) which) ⌝ }
 {
     match which {
-        Which::Header => 0,
-        Which::Child { tag, nth } => child_place(s, tag, nth),
+        Which::Header => at,
+        Which::Child { tag, nth } => child_place(s, at, tag, nth),
     }
 }

@@ -19,7 +19,7 @@ abbrev texts : tie.Start → List ℕ
 texts c = units (c .args .text .now)
 
 abbrev headers : tie.Start → List (List ℕ)
-headers c = controls (kids (c .args .n) (recordsIn (drop (c .args .from) (c .args .s .now))))
+headers c = controls (kids (c .args .n) (recordsIn (drop (c .args .from .0) (c .args .s .now))))
 
 of-header-requires : tie.Need-of-header-requires
 of-header-requires c κs = search needs

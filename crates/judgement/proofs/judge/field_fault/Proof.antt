@@ -26,17 +26,17 @@ use Rattle.text.proofs.Cursor.start.Reads as start-reads
 use Rattle.text.proofs.Cursor.step.Reads as step-reads
 
 abbrev Inv-loop : tie.InvT-loop
-Inv-loop s from n text cursor₀ at₀ nth₀ skipped₀ cursor at nth skipped = Walking s (units text) from n (cursor .at .0) skipped at nth
+Inv-loop s n text cursor₀ at₀ nth₀ skipped₀ cursor at nth skipped = Walking s (units text) (at₀ .0) n (cursor .at .0) skipped (at .0) nth
 
 abbrev μ-loop : tie.MeasureT-loop
-μ-loop s from n text cursor₀ at₀ nth₀ skipped₀ cursor at nth skipped = length (units text) - cursor .at .0
+μ-loop s n text cursor₀ at₀ nth₀ skipped₀ cursor at nth skipped = length (units text) - cursor .at .0
 
 -- where the walk stands behind a run of ordinary units
 abbrev start : tie.After-past-ordinary Inv-loop μ-loop → tie.Start Inv-loop μ-loop
 start c = c .before .before .before .before .before
 
 ran : (c : tie.After-past-ordinary Inv-loop μ-loop)
-    → Walking (start c .args .s .now) (units (start c .args .text .now)) (start c .args .from) (start c .args .n) (c .past-ordinary .result .at .0) (c .before .loop .skipped) (c .before .loop .at) (c .before .loop .nth)
+    → Walking (start c .args .s .now) (units (start c .args .text .now)) (start c .args .from .0) (start c .args .n) (c .past-ordinary .result .at .0) (c .before .loop .skipped) (c .before .loop .at .0) (c .before .loop .nth)
 ran c = walking-to (c .before .loop .inv) _ (c .past-ordinary .ensures)
 
 run-rises : (c : tie.After-past-ordinary Inv-loop μ-loop) → c .before .loop .cursor .at .0 ≤ c .past-ordinary .result .at .0
@@ -51,7 +51,7 @@ onward : (c : tie.After-owned-header Inv-loop μ-loop)
 onward c = step-stands _ _ _ _ _ (sym (c .before .before .before .before .step .ensures) ∙ c .before .before .what .given .1) .1
 
 owns : (c : tie.After-owned-header Inv-loop μ-loop) (y : Owned) → c .owned-header .result ≡ y
-    → Outcome (start (turn c) .args .s .now) (start (turn c) .args .n) (turn c .before .loop .skipped) (turn c .before .loop .at) (ownerOf (c .before .before .what .given .0 .1 .0)) y
+    → Outcome (start (turn c) .args .s .now) (start (turn c) .args .n) (turn c .before .loop .skipped) (turn c .before .loop .at .0) (ownerOf (c .before .before .what .given .0 .1 .0)) y
 owns c y e =
     outcome (start (turn c) .args .s .now) (slice-bytes (start (turn c) .args .s .now) (turn c .before .before .before .before .shared-slice-known .given)) _ _ _ _ _ y (c .owned-header .ensures) e
 
@@ -60,12 +60,12 @@ abbrev header : tie.After-p Inv-loop μ-loop → tie.After-owned-header Inv-loop
 header c = c .before .before
 
 its : (c : tie.After-p Inv-loop μ-loop)
-    → Outcome (start (turn (header c)) .args .s .now) (start (turn (header c)) .args .n) (turn (header c) .before .loop .skipped) (turn (header c) .before .loop .at) (ownerOf (header c .before .before .what .given .0 .1 .0)) (K.Header (c .p .given .0 .0))
+    → Outcome (start (turn (header c)) .args .s .now) (start (turn (header c)) .args .n) (turn (header c) .before .loop .skipped) (turn (header c) .before .loop .at .0) (ownerOf (header c .before .before .what .given .0 .1 .0)) (K.Header (c .p .given .0 .0))
 its c = owns (header c) (K.Header (c .p .given .0 .0)) (c .p .given .1)
 
 -- and it was looked at
 abbrev part : tie.After-field-short Inv-loop μ-loop → tie.After-p Inv-loop μ-loop
-part c = c .before .before .before .before .before
+part c = c .before .before .before
 
 short : (c : tie.After-field-short Inv-loop μ-loop) → fieldShort (bodyOf (start (turn (header (part c))) .args .s .now) (part c .p .given .0 .0)) ≡ c .field-short .result
 short c = sym (c .field-short .ensures ∙ ap fieldShort (c .before .body .ensures))
@@ -127,20 +127,14 @@ header-short-requires c κs = search needs
 returns : tie.Need-returns Inv-loop μ-loop
 returns c = c .header-short .ensures ∙ walking-short (ran (turn (header (part (c .before .before))))) (onward (header (part (c .before .before)))) _ (its (part (c .before .before))) (short (c .before .before) ∙ c .before .if1 .taken)
 
-add-end : tie.Need-add-end Inv-loop μ-loop
-add-end c = omega (arith, its (c .before .before) .1 .inside)
-
-add-end-2 : tie.Need-add-end-2 Inv-loop μ-loop
-add-end-2 c = omega (arith, its (c .before .before .before) .1 .inside, start (turn (header (c .before .before .before))) .good .0 .0)
-
 add-nth-2 : tie.Need-add-nth-2 Inv-loop μ-loop
-add-nth-2 c = omega (arith, ran (turn (header (part (c .before)))) .few, onward (header (part (c .before))) .rises, onward (header (part (c .before))) .fits, length-units (start (turn (header (part (c .before)))) .args .text .now), start (turn (header (part (c .before)))) .good .1 .1 .1 .0 .0)
+add-nth-2 c = omega (arith, ran (turn (header (part (c .before .before)))) .few, onward (header (part (c .before .before))) .rises, onward (header (part (c .before .before))) .fits, length-units (start (turn (header (part (c .before .before)))) .args .text .now), start (turn (header (part (c .before .before)))) .good .1 .1 .1 .0 .0)
 
 loop-less-3 : tie.Need-loop-less-3 Inv-loop μ-loop
-loop-less-3 c = omega (arith, onward (header (part (c .before))) .rises, onward (header (part (c .before))) .fits, run-rises (turn (header (part (c .before)))))
+loop-less-3 c = omega (arith, onward (header (part (c .before .before))) .rises, onward (header (part (c .before .before))) .fits, run-rises (turn (header (part (c .before .before)))))
 
 loop-again-3 : tie.Need-loop-again-3 Inv-loop μ-loop
-loop-again-3 c = walking-header (ran (turn (header (part (c .before))))) (onward (header (part (c .before)))) _ (its (part (c .before))) (short (c .before) ∙ c .if1 .left)
+loop-again-3 c = walking-header (ran (turn (header (part (c .before .before))))) (onward (header (part (c .before .before)))) _ (its (part (c .before .before))) (short (c .before .before) ∙ c .before .if1 .left)
 
 enum-told-3 : tie.Need-enum-told-3 Inv-loop μ-loop
 enum-told-3 c = search needs
@@ -181,8 +175,6 @@ field-fault-spec =
     loop-less-2
     loop-again-2
     enum-known-p
-    add-end
-    add-end-2
     body-requires
     field-short-requires
     header-short-requires

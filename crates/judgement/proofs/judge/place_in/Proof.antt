@@ -1,5 +1,7 @@
 -- The place of what a fault names is `placeOf`. Assumes nothing.
 use mathlib.Core.Path.{sym, ap, _∙_}
+use lib.ListN.{drop}
+use Rattle.records.specs.Reading.{offset}
 use Rattle.paragraph.specs.Places.{placeOf}
 use Rattle.paragraph.specs.Stream.{recordsIn}
 use borrow.Author.Needs.{needs}
@@ -19,10 +21,10 @@ child-place-requires : tie.Need-child-place-requires
 child-place-requires c κs = search needs
 
 returns : tie.Need-returns
-returns c = search needs
+returns c = let a = c .before .before .before .args in ap (λ w. offset (placeOf (a .at .0) (recordsIn (drop (a .at .0) (a .s .now))) w)) (sym (c .enum-told .given .1))
 
 returns-2 : tie.Need-returns-2
-returns-2 c = (c .child-place .ensures .0 ∙ ap (placeOf (recordsIn (c .before .before .before .before .before .args .s .now))) (sym (c .before .before .which .given .1)), c .child-place .ensures .1)
+returns-2 c = let a = c .before .before .before .before .before .args in c .child-place .ensures ∙ ap (λ w. offset (placeOf (a .at .0) (recordsIn (drop (a .at .0) (a .s .now))) w)) (sym (c .before .before .which .given .1))
 
 pub place-in-spec : {M : Type 1} → statement M
 place-in-spec =
