@@ -5,10 +5,9 @@ use mathlib.Core.Path.{_≡_, refl, sym, ap, ap₂, _∙_, subst}
 use mathlib.Core.Bool.{Bool, true, false, cond}
 use mathlib.Core.Option.{Option, none, some}
 use mathlib.Core.List.{List, [], _∷_}
-use lib.ListN.{length, take, drop, length-drop}
+use lib.ListN.{drop}
 use borrow.Author.Tests.{eq-eqb, ne-eqb}
 use Rattle.numbers.specs.Little.{Bytes}
-use Rattle.numbers.proofs.LittleLaws.{part-rest}
 use Rattle.records.specs.Records.{Rec, size}
 use Rattle.records.specs.Reading.{readAll}
 use Rattle.records.specs.Answers.{refusedAt}
@@ -18,7 +17,9 @@ use Rattle.records.specs.declared.fault.Fault.the-variants as F
 use Rattle.records.specs.declared.fault.Refusal.{Refusal}
 use Rattle.records.specs.declared.fault.Answer.{Answer}
 use Rattle.records.specs.declared.fault.Answer.the-variants as A
-use Rattle.records.specs.declared.header.Header.{Header}
+use Rattle.records.specs.Reading.{offset}
+use Rattle.records.specs.declared.fault.Offset.{Offset}
+use Rattle.records.specs.declared.header.Record.{Record}
 use Rattle.records.proofs.ScanLaws.{accepted}
 use Rattle.paragraph.specs.Stream.{recordsIn}
 use Rattle.paragraph.specs.Rules.{firstFault}
@@ -52,37 +53,28 @@ pub record Judging (s : List ℕ) (at : ℕ) : Type 0 where
 pub judging-start : (s : List ℕ) → Judging s 0
 judging-start s = record { rest = refl }
 
-module _ {s : List ℕ} {at : ℕ} {h : Header} (k : Judging s at) (d : Read s at h) where
+module _ {s : List ℕ} {at : ℕ} {r : Record} (k : Judging s at) (d : Read s at r) where
   abbrev left : List Rec
-  left = recordsIn (take (length s - at) (drop at s))
+  left = recordsIn (drop at s)
 
-  left-is : left ≡ d .rec ∷ recordsIn (drop (at + size (d .rec)) s)
-  left-is = ap recordsIn (part-rest s at) ∙ d .stands .records
-
-  here : paragraphsFault 0 (recordsIn s) ≡ refusalOr at left (findingOf (h .tag) left) (paragraphsFault (at + size (d .rec)) (recordsIn (drop (at + size (d .rec)) s)))
+  here : paragraphsFault 0 (recordsIn s) ≡ refusalOr at left (findingOf (r .tag) left) (paragraphsFault (r .next .0) (recordsIn (drop (r .next .0) s)))
   unfolding paragraphsFault
   here =
       k .rest
-      ∙ ap (paragraphsFault at) (d .stands .records)
-      ∙ ap₂ (λ (l : List Rec) (t : ℕ). refusalOr at l (findingOf t l) (paragraphsFault (at + size (d .rec)) (recordsIn (drop (at + size (d .rec)) s)))) (sym left-is) (sym (d .tag-is))
+      ∙ ap (paragraphsFault at) (d .records)
+      ∙ ap₂ (λ (a : ℕ) (t : ℕ). refusalOr at (d .rec ∷ recordsIn (drop (r .next .0) s)) (findingOf t (d .rec ∷ recordsIn (drop (r .next .0) s))) (paragraphsFault a (recordsIn (drop (r .next .0) s)))) (sym (d .next-is)) (sym (d .tag-is))
+      ∙ ap (λ (l : List Rec). refusalOr at l (findingOf (r .tag) l) (paragraphsFault (r .next .0) (recordsIn (drop (r .next .0) s)))) (sym (d .records))
 
-  pub judging-next : (x : Finding) → x ≡ findingOf (h .tag) left → x ≡ G.Lawful → Judging s (at + h .lead + h .length)
-  judging-next x e q =
-      let to : at + size (d .rec) ≡ at + h .lead + h .length = omega (arith, d .size-is) in
-      record {
-        rest =
-            here
-            ∙ ap (λ (y : Finding). refusalOr at left y (paragraphsFault (at + size (d .rec)) (recordsIn (drop (at + size (d .rec)) s)))) (sym e ∙ q)
-            ∙ ap (λ (a : ℕ). paragraphsFault a (recordsIn (drop a s))) to;
-      }
+  judged : (x y : Finding) → x ≡ findingOf (r .tag) left → x ≡ y → paragraphsFault 0 (recordsIn s) ≡ refusalOr at left y (paragraphsFault (r .next .0) (recordsIn (drop (r .next .0) s)))
+  judged x y e q = here ∙ ap (λ (z : Finding). refusalOr at left z (paragraphsFault (r .next .0) (recordsIn (drop (r .next .0) s)))) (sym e ∙ q)
 
-  pub judging-breach : (x : Finding) (f : Fault) (w : Which) (n p : ℕ) → x ≡ findingOf (h .tag) left → x ≡ G.Breach f w → p ≡ placeOf left w
-      → refusedAt f (at + p) ≡ settled n (paragraphsFault 0 (recordsIn s))
+  pub judging-next : (x : Finding) → x ≡ findingOf (r .tag) left → x ≡ G.Lawful → Judging s (r .next .0)
+  judging-next x e q = record { rest = judged x G.Lawful e q }
+
+  pub judging-breach : (x : Finding) (f : Fault) (w : Which) (n : ℕ) (p : Offset) → x ≡ findingOf (r .tag) left → x ≡ G.Breach f w → p ≡ offset (placeOf at left w)
+      → refusedAt f (p .0) ≡ settled n (paragraphsFault 0 (recordsIn s))
   judging-breach x f w n p e q z =
-      sym
-      (ap (settled n)
-      (here ∙ ap (λ (y : Finding). refusalOr at left y (paragraphsFault (at + size (d .rec)) (recordsIn (drop (at + size (d .rec)) s)))) (sym e ∙ q))
-      ∙ ap (λ (y : ℕ). refusedAt f (at + y)) (sym z))
+      ap (λ (y : Offset). refusedAt f (y .0)) z ∙ sym (ap (settled n) (judged x (G.Breach f w) e q))
 
 pub judging-end : {s : List ℕ} {at : ℕ} (n : ℕ) → Judging s at → recordsIn (drop at s) ≡ [] → A.Accepted n ≡ settled n (paragraphsFault 0 (recordsIn s))
 unfolding paragraphsFault
@@ -90,17 +82,17 @@ judging-end {s} {at} n k e = sym (ap (settled n) (k .rest ∙ ap (paragraphsFaul
 
 -- ---- 9, then the paragraphs
 
-stray-by : (n : ℕ) (o : Option ℕ) (p : ℕ) (rest : Option Refusal) → strayOf o ≡ Y.At p → refusedAt F.Misplaced p ≡ settled n (strayOr o rest)
+stray-by : (n : ℕ) (o : Option ℕ) (p : ℕ) (rest : Option Refusal) → strayOf o ≡ Y.At (offset p) → refusedAt F.Misplaced p ≡ settled n (strayOr o rest)
 stray-by n none p rest e = absurd (let z : _≡_ {A = ℕ} 0 1 = cc in omega arith)
-stray-by n (some q) p rest e = let z : p ≡ q = cc in ap (refusedAt F.Misplaced) z
+stray-by n (some q) p rest e = let z : offset q ≡ offset p = cc in ap (λ (y : Offset). refusedAt F.Misplaced (y .0)) (sym z)
 
 nowhere-by : (n : ℕ) (o : Option ℕ) (y : Answer) (rest : Option Refusal) → strayOf o ≡ Y.Nowhere → y ≡ settled n rest → y ≡ settled n (strayOr o rest)
 nowhere-by n none y rest e q = q
 nowhere-by n (some p) y rest e q = absurd (let z : _≡_ {A = ℕ} 0 1 = cc in omega arith)
 
 module _ (n : ℕ) (o : Option ℕ) (rest : Option Refusal) (x : Stray) (is : x ≡ strayOf o) where
-  pub section-stray : (p : ℕ) → x ≡ Y.At p → refusedAt F.Misplaced p ≡ settled n (strayOr o rest)
-  section-stray p e = stray-by n o p rest (sym is ∙ e)
+  pub section-stray : (p : Offset) → x ≡ Y.At p → refusedAt F.Misplaced (p .0) ≡ settled n (strayOr o rest)
+  section-stray p e = stray-by n o (p .0) rest (sym is ∙ e)
 
   pub section-placed : (y : Answer) → x ≡ Y.Nowhere → y ≡ settled n rest → y ≡ settled n (strayOr o rest)
   section-placed y e q = nowhere-by n o y rest (sym is ∙ e) q
@@ -141,7 +133,3 @@ pub section-read : (s : List ℕ) (room n : ℕ) (x y : Answer) → x ≡ sectio
 section-read s room n x y is e q =
     let a : sectionAnswer s room ≡ A.Accepted n = sym is ∙ e in
     q ∙ section-accepted s room n a ∙ sym a
-
--- a place in the part behind `at` is in the stream
-pub place-fits : (s : List ℕ) (at p : ℕ) → at ≤ length s → p ≤ length (take (length s - at) (drop at s)) → at + p ≤ length s
-place-fits s at p h k = omega (arith, ap length (part-rest s at), length-drop at s)

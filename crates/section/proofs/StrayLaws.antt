@@ -9,8 +9,8 @@ use mathlib.Core.List.{List, [], _∷_}
 use lib.ListN.{length, getD, set, drop, length-set}
 use lib.Seq.{getD-set-same, getD-set-other}
 use Rattle.records.specs.Records.{Rec, size}
-use Rattle.records.specs.Reading.{Read, onto, readFrom, readAll}
-use Rattle.records.specs.declared.header.Header.{Header}
+use Rattle.records.specs.Reading.{Read, offset, onto, readFrom, readAll}
+use Rattle.records.specs.declared.header.Record.{Record}
 use Rattle.records.proofs.ReadingLaws.{Here}
 use Rattle.text.proofs.Cases.{lt-or, eq-or}
 use Rattle.section.specs.Parents.{misplaced, strayFrom}
@@ -83,7 +83,7 @@ module _ (table : List ℕ) (r : Rec) (earlier : List Rec) (code own : ℕ) (h :
           subst (λ (m : ℕ). Speaks (getD after m 0) m (r ∷ earlier)) (sym z)
           (subst (λ (c : ℕ). Speaks c (r .level + 1) (r ∷ earlier)) (sym (after-own ∙ e)) (speaks-own r earlier))
 
-module _ {s table : List ℕ} {at cap : ℕ} {h : Header} (k : Placing s table at cap) (d : Here s at cap h) where
+module _ {s table : List ℕ} {at cap : ℕ} {h : Record} (k : Placing s table at cap) (d : Here s at cap h) where
   abbrev code : ℕ
   code = getD table (h .level) 0
 
@@ -106,25 +106,24 @@ module _ {s table : List ℕ} {at cap : ℕ} {h : Header} (k : Placing s table a
   at-tag : {x y : Seat} → x ≡ seatOf code (h .tag) → x ≡ y → seatOf code (d .rec .tag) ≡ y
   at-tag e q = ap (seatOf code) (sym (d .tag-is)) ∙ sym e ∙ q
 
-  stray-by : Seating code (d .rec) (k .earlier) → seatOf code (d .rec .tag) ≡ T.Stray → Y.At at ≡ strayOf (strayFrom 0 [] (readAll s .recs))
+  stray-by : Seating code (d .rec) (k .earlier) → seatOf code (d .rec .tag) ≡ T.Stray → Y.At (offset at) ≡ strayOf (strayFrom 0 [] (readAll s .recs))
   stray-by (strays a m) e = sym (ap strayOf (here ∙ stray-here at (k .earlier) (d .rec) behind m))
   stray-by (sits c a m w) e = absurd (let z : T.Seated c ≡ T.Stray = sym a ∙ e in let y : _≡_ {A = ℕ} 0 1 = cc in omega arith)
 
-  pub placing-stray : (x : Seat) → x ≡ seatOf code (h .tag) → x ≡ T.Stray → Y.At at ≡ strayOf (strayFrom 0 [] (readAll s .recs))
+  pub placing-stray : (x : Seat) → x ≡ seatOf code (h .tag) → x ≡ T.Stray → Y.At (offset at) ≡ strayOf (strayFrom 0 [] (readAll s .recs))
   placing-stray x e q = stray-by seated (at-tag e q)
 
   next-by : Seating code (d .rec) (k .earlier) → (c own : ℕ) → seatOf code (d .rec .tag) ≡ T.Seated c → own ≡ ownCode (h .tag)
-      → Placing s (set (set table (h .level) c) (h .level + 1) own) (at + h .lead + h .length) (h .level + 1)
+      → Placing s (set (set table (h .level) c) (h .level + 1) own) (h .next .0) (h .level + 1)
   next-by (strays a m) c own e o = absurd (let z : T.Stray ≡ T.Seated c = sym a ∙ e in let y : _≡_ {A = ℕ} 0 1 = cc in omega arith)
   next-by (sits b a m w) c own e o =
       let z : T.Seated b ≡ T.Seated c = sym a ∙ e in
       let same : b ≡ c = cc in
-      let to : at + size (d .rec) ≡ at + h .lead + h .length = omega (arith, d .size-is) in
       record {
         earlier = d .rec ∷ k .earlier;
         long = simp length-set (k .long);
         low = omega (arith, d .level-is, d .obeys .level-high);
-        inside = omega (arith, d .inside);
+        inside = omega (arith, d .inside, d .next-is);
         speaks =
             subst (λ (v : ℕ). (l : ℕ) → l ≤ v + 1 → Speaks (getD (set (set table v c) (v + 1) own) l 0) l (d .rec ∷ k .earlier)) (sym (d .level-is))
             (after-speaks table (d .rec) (k .earlier) c own (omega (arith, k .long, d .obeys .level-high)) (o ∙ ap ownCode (d .tag-is))
@@ -132,15 +131,14 @@ module _ {s table : List ℕ} {at cap : ℕ} {h : Header} (k : Placing s table a
             (λ l q. k .speaks l (omega (arith, d .obeys .level-cap))));
         rest =
             here ∙ stray-next at (k .earlier) (d .rec) behind m
-            ∙ ap₂ (λ (a l : ℕ). strayFrom a (d .rec ∷ k .earlier) (readFrom (l + 1) 0 (drop a s) .recs)) to (sym (d .level-is));
+            ∙ ap₂ (λ (a l : ℕ). strayFrom a (d .rec ∷ k .earlier) (readFrom (l + 1) 0 (drop a s) .recs)) (sym (d .next-is)) (sym (d .level-is));
       }
 
   pub placing-next : (x : Seat) (c own : ℕ) → x ≡ seatOf code (h .tag) → x ≡ T.Seated c → own ≡ ownCode (h .tag)
-      → Placing s (set (set table (h .level) c) (h .level + 1) own) (at + h .lead + h .length) (h .level + 1)
+      → Placing s (set (set table (h .level) c) (h .level + 1) own) (h .next .0) (h .level + 1)
   placing-next x c own e q o = next-by seated c own (at-tag e q) o
 
-pub placing-end : {s table : List ℕ} {at cap : ℕ} {x : Read} → Placing s table at cap → readFrom cap 0 (drop at s) ≡ x → x .recs ≡ []
+pub placing-end : {s table : List ℕ} {at cap : ℕ} → Placing s table at cap → readFrom cap 0 (drop at s) .recs ≡ []
     → Y.Nowhere ≡ strayOf (strayFrom 0 [] (readAll s .recs))
 unfolding strayFrom
-placing-end {s} {table} {at} {cap} {x} k e n =
-    sym (ap strayOf (k .rest ∙ ap (λ (y : Read). strayFrom at (k .earlier) (y .recs)) e ∙ ap (strayFrom at (k .earlier)) n))
+placing-end {s} {table} {at} {cap} k e = sym (ap strayOf (k .rest ∙ ap (strayFrom at (k .earlier)) e))

@@ -4,6 +4,7 @@ use mathlib.Core.Bool.{Bool, true, false, cond, _&&_, _||_, not}
 use mathlib.Core.Option.{Option, none, some}
 use mathlib.Core.List.{List, [], _∷_}
 use lib.Dec.{ltb, leb, eqb}
+use Rattle.records.specs.Kinds as kind
 use Rattle.records.specs.Records.{Rec, size}
 
 -- the parent of a record at a level, the nearest earlier record of smaller level, with those before it; nothing where there is none
@@ -19,10 +20,10 @@ doubled tag level (q ∷ before) = cond (ltb (q .level) level) false ((eqb (q .l
 
 -- records 67 to 70
 unfoldable pub leaf : ℕ → Bool
-leaf tag = leb 67 tag && leb tag 70
+leaf tag = leb kind.text tag && leb tag kind.marks
 
 unfoldable pub header : ℕ → Bool
-header tag = eqb tag 66
+header tag = eqb tag kind.paragraphHeader
 
 -- there is a parent, and its tag is such
 abbrev pub parentIs : (ℕ → Bool) → List Rec → Bool

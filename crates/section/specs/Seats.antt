@@ -4,6 +4,8 @@ use Prim.Native.Nat.{ℕ, _+_, _/_, _%_}
 use mathlib.Core.Bool.{Bool, true, false, cond}
 use mathlib.Core.Option.{Option, none, some}
 use lib.Dec.{leb, eqb}
+use Rattle.records.specs.Kinds as kind
+use Rattle.records.specs.Reading.{offset}
 use Rattle.section.specs.Parents.{leaf, header}
 use Rattle.section.specs.declared.parents.Seat.{Seat}
 use Rattle.section.specs.declared.parents.Seat.the-variants as T
@@ -16,7 +18,7 @@ ownCode tag = cond (header tag) 0 (cond (leaf tag) 32 16)
 
 -- the bit of a record 67 to 70
 unfoldable pub bitOf : ℕ → ℕ
-bitOf tag = cond (eqb tag 67) 1 (cond (eqb tag 68) 2 (cond (eqb tag 69) 4 8))
+bitOf tag = cond (eqb tag kind.text) 1 (cond (eqb tag kind.shapes) 2 (cond (eqb tag kind.layout) 4 8))
 
 unfoldable pub has : ℕ → ℕ → Bool
 has code tag = eqb (code / bitOf tag % 2) 1
@@ -31,4 +33,4 @@ seatOf code tag = cond (eqb code 32) T.Stray (cond (leaf tag) (seatLeaf code tag
 -- what the pass answers
 abbrev pub strayOf : Option ℕ → Stray
 strayOf none = Y.Nowhere
-strayOf (some p) = Y.At p
+strayOf (some p) = Y.At (offset p)

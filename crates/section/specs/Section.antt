@@ -25,7 +25,7 @@ refusal f p = record { fault = f; place = record { 0 = p } }
 -- the refusal that a finding makes of the paragraph at `at`, and else what follows
 abbrev pub refusalOr : ℕ → List Rec → Finding → Option Refusal → Option Refusal
 refusalOr at rs G.Lawful rest = rest
-refusalOr at rs (G.Breach f w) rest = some (refusal f (at + placeOf rs w))
+refusalOr at rs (G.Breach f w) rest = some (refusal f (placeOf at rs w))
 
 -- the finding of the first of some records, by its tag
 abbrev pub findingOf : ℕ → List Rec → Finding

@@ -1,6 +1,8 @@
 // Where records 67 to 70 stand: rule 9. Its pass keeps 1,025 bytes on the stack, one for each level and one below.
-use records::Front;
-use records::first;
+use records::Ahead;
+use records::Kind;
+use records::Offset;
+use records::record_at;
 ghost use mathlib.Core.Path.{_≡_};
 ghost use mathlib.Core.List.{[]};
 ghost use Prim.Native.Nat.{_≤_};
@@ -17,22 +19,22 @@ pub enum Seat {
 // The earliest record that 9 can name.
 pub enum Stray {
     Nowhere,
-    At(usize),
+    At(Offset),
 }
 
 fn is_leaf(tag: u32) -> bool
     ensures { λ r. ⌜ r ≡ leaf tag ⌝ }
 {
-    if tag < 67 {
+    if tag < Kind::TEXT {
         return false;
     }
-    tag <= 70
+    tag <= Kind::MARKS
 }
 
 fn own_code(tag: u32) -> u8
     ensures { λ r. ⌜ r ≡ ownCode tag ⌝ }
 {
-    if tag == 66 {
+    if tag == Kind::PARAGRAPH_HEADER {
         return 0;
     }
     if is_leaf(tag) { 32 } else { 16 }
@@ -41,13 +43,13 @@ fn own_code(tag: u32) -> u8
 fn bit(tag: u32) -> u8
     ensures { λ r. ⌜ (r ≡ bitOf tag) × (1 ≤ r) × (r ≤ 8) ⌝ }
 {
-    if tag == 67 {
+    if tag == Kind::TEXT {
         return 1;
     }
-    if tag == 68 {
+    if tag == Kind::SHAPES {
         return 2;
     }
-    if tag == 69 { 4 } else { 8 }
+    if tag == Kind::LAYOUT { 4 } else { 8 }
 }
 
 fn seat_leaf(code: u8, tag: u32) -> Seat
@@ -81,29 +83,23 @@ pub fn find_stray(s: &[u8]) -> Stray
     ensures { λ r. ⌜ r ≡ strayOf (strayFrom 0 [] (readAll (now (s .entry)) .recs)) ⌝ }
 {
     let mut table = [16u8; 1025];
-    let mut at: usize = 0;
+    let mut at = Offset(0);
     let mut cap: u32 = 0;
-    while at < s.len() {
-        match first(&s[at..], cap) {
-            Front::Record(h) => {
-                let level = h.level as usize;
-                let tag = h.tag;
-                match take_seat(table[level], tag) {
-                    Seat::Stray => {
-                        return Stray::At(at);
-                    }
-                    Seat::Seated(code) => {
-                        table[level] = code;
-                        table[level + 1] = own_code(tag);
-                    }
-                }
-                at = at + h.lead + h.length;
-                cap = h.level + 1;
+    loop {
+        let Ahead::Record(r) = record_at(s, at, cap) else {
+            return Stray::Nowhere;
+        };
+        let level = r.level as usize;
+        match take_seat(table[level], r.tag) {
+            Seat::Stray => {
+                return Stray::At(at);
             }
-            Front::Refused(_) => {
-                return Stray::Nowhere;
+            Seat::Seated(code) => {
+                table[level] = code;
+                table[level + 1] = own_code(r.tag);
             }
         }
+        at = r.next;
+        cap = r.level + 1;
     }
-    Stray::Nowhere
 }

@@ -6,29 +6,31 @@ use crate::parents::find_stray;
 use judgement::judge_paragraph;
 use judgement::place_in;
 use paragraph::Finding;
+use records::Ahead;
 use records::Answer;
 use records::Fault;
-use records::Front;
 use records::Kind;
-use records::first;
+use records::Offset;
 use records::read;
+use records::record_at;
 use records::refused;
 use records::room;
 use records::scan;
 ghost use mathlib.Core.Path.{_≡_};
 ghost use mathlib.Core.List.{[]};
+ghost use lib.ListN.{drop};
 ghost use Rattle.records.specs.Reading.{readAll};
 ghost use Rattle.records.specs.Table.{entered, Table, shortest};
 ghost use Rattle.paragraph.specs.Stream.{recordsIn};
 ghost use Rattle.section.specs.Parents.{strayFrom};
 ghost use Rattle.section.specs.Section.{findingOf, paragraphsFault, strayOr, settled, sectionAnswer, checkAnswer};
 
-// The finding of the record at the front of s, by its tag.
-fn found_at(s: &[u8], tag: u32) -> Finding
-    ensures { λ r. ⌜ r ≡ findingOf tag (recordsIn (now (s .entry))) ⌝ }
+// The finding of the record at a place, by its tag.
+fn found_at(s: &[u8], at: Offset, tag: u32) -> Finding
+    ensures { λ r. ⌜ r ≡ findingOf tag (recordsIn (drop (at .0) (now (s .entry)))) ⌝ }
 {
     if tag == Kind::PARAGRAPH_HEADER {
-        return judge_paragraph(s);
+        return judge_paragraph(s, at);
     }
     Finding::Lawful
 }
@@ -37,25 +39,16 @@ fn found_at(s: &[u8], tag: u32) -> Finding
 fn judge_paragraphs(s: &[u8], n: usize) -> Answer
     ensures { λ r. ⌜ r ≡ settled n (paragraphsFault 0 (recordsIn (now (s .entry)))) ⌝ }
 {
-    let mut at: usize = 0;
-    while at < s.len() {
-        match first(&s[at..], 1023) {
-            Front::Record(h) => {
-                match found_at(&s[at..], h.tag) {
-                    Finding::Breach { fault, which } => {
-                        let place = place_in(&s[at..], which);
-                        return refused(fault, at + place);
-                    }
-                    Finding::Lawful => {}
-                }
-                at = at + h.lead + h.length;
-            }
-            Front::Refused(_) => {
-                return Answer::Accepted(n);
-            }
+    let mut at = Offset(0);
+    loop {
+        let Ahead::Record(r) = record_at(s, at, 1023) else {
+            return Answer::Accepted(n);
+        };
+        if let Finding::Breach { fault, which } = found_at(s, at, r.tag) {
+            return refused(fault, place_in(s, at, which));
         }
+        at = r.next;
     }
-    Answer::Accepted(n)
 }
 
 // 9 over all records, then each paragraph.
