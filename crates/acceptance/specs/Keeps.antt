@@ -5,6 +5,7 @@ use mathlib.Core.Option.{Option, none, some}
 use mathlib.Core.List.{List, [], _∷_, map}
 use lib.ListN.{length, drop}
 use Rattle.numbers.specs.Little.{little}
+use Rattle.records.specs.Kinds as kind
 use Rattle.text.specs.Units.{units}
 use Rattle.text.specs.Walk.{Sound, tokens, extendedCount}
 use Rattle.paragraph.specs.View.{View, child, controls}
@@ -77,23 +78,23 @@ pub record Keeps (v : View) : Type 0 where
   -- the body of the header has 22 bytes or more
   pub header-long : 22 ≤ length (v .head)
   -- text: 2 x count bytes; with count 0 absent, with count 1 it may be absent
-  pub text-absent : child 67 (v .own) ≡ none → countsOf (v .head) .count < 2
-  pub text-sized : (b : List ℕ) → child 67 (v .own) ≡ some b → Sized 2 (countsOf (v .head) .count) b
-  pub text-sound : (b : List ℕ) → child 67 (v .own) ≡ some b → Sound (units b)
+  pub text-absent : child kind.text (v .own) ≡ none → countsOf (v .head) .count < 2
+  pub text-sized : (b : List ℕ) → child kind.text (v .own) ≡ some b → Sized 2 (countsOf (v .head) .count) b
+  pub text-sound : (b : List ℕ) → child kind.text (v .own) ≡ some b → Sound (units b)
   -- character shapes: always present and at least one, 8 bytes each; the first start is 0, starts strictly rise, each is below the
   -- count (below 1 when the count is 0)
-  pub shapes-there : child 68 (v .own) ≡ none → ⊥
-  pub shapes-sized : (b : List ℕ) → child 68 (v .own) ≡ some b → Sized 8 (countsOf (v .head) .shapes) b
-  pub shapes-first : First 0 (startsOf (bytesIn (child 68 (v .own))))
-  pub shapes-rise : Rise (startsOf (bytesIn (child 68 (v .own))))
-  pub shapes-below : Below (max 1 (countsOf (v .head) .count)) (startsOf (bytesIn (child 68 (v .own))))
+  pub shapes-there : child kind.shapes (v .own) ≡ none → ⊥
+  pub shapes-sized : (b : List ℕ) → child kind.shapes (v .own) ≡ some b → Sized 8 (countsOf (v .head) .shapes) b
+  pub shapes-first : First 0 (startsOf (bytesIn (child kind.shapes (v .own))))
+  pub shapes-rise : Rise (startsOf (bytesIn (child kind.shapes (v .own))))
+  pub shapes-below : Below (max 1 (countsOf (v .head) .count)) (startsOf (bytesIn (child kind.shapes (v .own))))
   -- line layout: present exactly if lines is above 0; its body is not examined
-  pub layout-absent : child 69 (v .own) ≡ none → countsOf (v .head) .lines ≡ 0
-  pub layout-there : (b : List ℕ) → child 69 (v .own) ≡ some b → 0 < countsOf (v .head) .lines
+  pub layout-absent : child kind.layout (v .own) ≡ none → countsOf (v .head) .lines ≡ 0
+  pub layout-there : (b : List ℕ) → child kind.layout (v .own) ≡ some b → 0 < countsOf (v .head) .lines
   -- marks: present exactly if marks is above 0, 12 bytes each; start at most end, end at most count
-  pub marks-absent : child 70 (v .own) ≡ none → countsOf (v .head) .marks ≡ 0
-  pub marks-sized : (b : List ℕ) → child 70 (v .own) ≡ some b → Sized 12 (countsOf (v .head) .marks) b
-  pub marks-within : Within (countsOf (v .head) .count) (marksOf (bytesIn (child 70 (v .own))))
+  pub marks-absent : child kind.marks (v .own) ≡ none → countsOf (v .head) .marks ≡ 0
+  pub marks-sized : (b : List ℕ) → child kind.marks (v .own) ≡ some b → Sized 12 (countsOf (v .head) .marks) b
+  pub marks-within : Within (countsOf (v .head) .count) (marksOf (bytesIn (child kind.marks (v .own))))
   -- the numbers of extended controls and of control headers are equal; under code 3 the header is long enough
-  pub controls-equal : extendedCount (units (bytesIn (child 67 (v .own)))) ≡ length (controls (v .own))
-  pub fields-long : Fields (codesIn (tokens (units (bytesIn (child 67 (v .own)))))) (controls (v .own))
+  pub controls-equal : extendedCount (units (bytesIn (child kind.text (v .own)))) ≡ length (controls (v .own))
+  pub fields-long : Fields (codesIn (tokens (units (bytesIn (child kind.text (v .own)))))) (controls (v .own))

@@ -4,6 +4,7 @@ use mathlib.Core.Bool.{Bool, true, false}
 use mathlib.Core.List.{List, [], _∷_}
 use Prim.Native.Nat.{ℕ, _≤_}
 use lib.ListN.{length}
+use Rattle.records.specs.Kinds as kind
 use Rattle.records.specs.Records.{Rec, limit, Encodes}
 use Rattle.paragraph.specs.View.{view}
 use Rattle.section.specs.Parents.{parentOf, leaf, header, parentIs}
@@ -30,7 +31,7 @@ AllPlaced earlier (r ∷ rs) = Placed r earlier × AllPlaced (r ∷ earlier) rs
 -- each paragraph keeps its rules
 abbrev pub AllKeep : List Rec → Type 0
 AllKeep [] = Unit {0}
-AllKeep (r ∷ rs) = (r .tag ≡ 66 → Keeps (view r rs)) × AllKeep rs
+AllKeep (r ∷ rs) = (r .tag ≡ kind.paragraphHeader → Keeps (view r rs)) × AllKeep rs
 
 pub record Obeys (rs : List Rec) : Type 0 where
   pub placed : AllPlaced [] rs

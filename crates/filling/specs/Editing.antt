@@ -6,6 +6,7 @@ use mathlib.Core.Path.{_≡_}
 use mathlib.Core.Option.{Option, none, some}
 use mathlib.Core.List.{List, [], _∷_}
 use lib.Dec.{eqb}
+use Rattle.records.specs.Kinds as kind
 use Rattle.records.specs.Records.{Rec}
 use Rattle.paragraph.specs.View.{View, view, side}
 use Rattle.paragraph.specs.declared.view.Side.the-variants as S
@@ -28,7 +29,7 @@ put (some b) r rs = withBody b r ∷ rs
 
 -- the number of control headers behind a record with tag t
 unfoldable pub countControl : ℕ → ℕ → ℕ
-countControl t j = cond (eqb t 71) (suc j) j
+countControl t j = cond (eqb t kind.controlHeader) (suc j) j
 
 -- a list of children changed, before which j control headers stand
 unfoldable pub changed : ℕ → Change → List Rec → List Rec
@@ -56,8 +57,8 @@ editHere e r rs = withBody (e .head (view r rs)) r ∷ editBehind (suc (r .level
 -- the records of a section with paragraph i edited, counted from 0 in stream order
 unfoldable pub editAt : ℕ → Edit → List Rec → List Rec
 editAt i e [] = []
-editAt zero e (r ∷ rs) = elim (eqb (r .tag) 66) [ true ↦ editHere e r rs | false ↦ r ∷ editAt zero e rs ]
-editAt (suc i) e (r ∷ rs) = elim (eqb (r .tag) 66) [ true ↦ r ∷ editAt i e rs | false ↦ r ∷ editAt (suc i) e rs ]
+editAt zero e (r ∷ rs) = elim (eqb (r .tag) kind.paragraphHeader) [ true ↦ editHere e r rs | false ↦ r ∷ editAt zero e rs ]
+editAt (suc i) e (r ∷ rs) = elim (eqb (r .tag) kind.paragraphHeader) [ true ↦ r ∷ editAt i e rs | false ↦ r ∷ editAt (suc i) e rs ]
 
 -- ---- how edits go together
 
@@ -69,7 +70,7 @@ modified (suc i) g (v ∷ vs) = v ∷ modified i g vs
 
 -- a change that takes away layout records only
 abbrev pub TakesLayout : Change → Type 0
-TakesLayout f = (j t : ℕ) (b : List ℕ) → f j t b ≡ none → t ≡ 69
+TakesLayout f = (j t : ℕ) (b : List ℕ) → f j t b ≡ none → t ≡ kind.layout
 
 -- one after another
 unfoldable pub thenBody : Change → ℕ → ℕ → Option (List ℕ) → Option (List ℕ)

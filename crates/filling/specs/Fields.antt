@@ -6,6 +6,7 @@ use mathlib.Core.List.{List, [], _∷_}
 use lib.Dec.{eqb}
 use lib.ListN.{getD, drop}
 use Rattle.numbers.specs.Little.{little}
+use Rattle.records.specs.Kinds as kind
 use Rattle.text.specs.Units.{units}
 use Rattle.text.specs.Walk.{Token, tokens, isExtended}
 use Rattle.text.specs.declared.Standing.the-variants.{Ordinary, Control}
@@ -43,7 +44,7 @@ fieldsIn n (t ∷ ts) =
 
 -- the fields of a paragraph; one without a text record has none
 unfoldable pub fields : View → List Field
-fields v = fieldsIn 0 (tokens (units (bytesIn (child 67 (v .own)))))
+fields v = fieldsIn 0 (tokens (units (bytesIn (child kind.text (v .own)))))
 
 -- the id in a field's control header (table 141): behind the command, whose length stands at 9
 unfoldable pub idIn : List ℕ → ℕ

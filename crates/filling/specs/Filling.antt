@@ -7,6 +7,7 @@ use mathlib.Core.List.{List, [], _∷_}
 use lib.Dec.{ltb, eqb}
 use lib.ListN.{length, drop}
 use Rattle.numbers.specs.Little.{little, bytesOf}
+use Rattle.records.specs.Kinds as kind
 use Rattle.records.specs.Records.{Rec, limit, encode}
 use Rattle.records.specs.Answers.{refusedAt, numberOf}
 use Rattle.records.specs.declared.fault.Fault.{Fault}
@@ -74,17 +75,17 @@ shapesOf (some s) = shapesIn s
 -- by the child's tag: text 67, shapes 68, layout 69, control header 71
 unfoldable pub newBody : Field → List ℕ → Change
 newBody f value j t body =
-    cond (eqb t 67) (some (replaced (2 * f .a) (2 * f .b) value body))
-    (cond (eqb t 68) (some (packed (shapesAfter (f .a) (f .b) (unitCount value) (shapesIn body))))
-    (cond (eqb t 69) none
-    (cond (eqb t 71) (some (cond (eqb j (f .ordinal)) (altered body) body)) (some body))))
+    cond (eqb t kind.text) (some (replaced (2 * f .a) (2 * f .b) value body))
+    (cond (eqb t kind.shapes) (some (packed (shapesAfter (f .a) (f .b) (unitCount value) (shapesIn body))))
+    (cond (eqb t kind.layout) none
+    (cond (eqb t kind.controlHeader) (some (cond (eqb j (f .ordinal)) (altered body) body)) (some body))))
 
 -- the fill of a field as an edit of its paragraph
 unfoldable pub filling : Field → List ℕ → Edit
 filling f value =
     record {
       head = λ v.
-          newHead (f .a) (f .b) (unitCount value) (length (shapesAfter (f .a) (f .b) (unitCount value) (shapesOf (child 68 (v .own))))) (v .head);
+          newHead (f .a) (f .b) (unitCount value) (length (shapesAfter (f .a) (f .b) (unitCount value) (shapesOf (child kind.shapes (v .own))))) (v .head);
       child = newBody f value;
     }
 

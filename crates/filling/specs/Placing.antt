@@ -4,6 +4,7 @@ use Prim.Native.Nat.{ℕ, suc, _≤_, _<_}
 use mathlib.Core.Path.{_≡_}
 use mathlib.Core.List.{List, [], _∷_}
 use lib.ListN.{length}
+use Rattle.records.specs.Kinds as kind
 use Rattle.records.specs.Records.{Rec}
 use Rattle.paragraph.specs.View.{kids}
 
@@ -15,7 +16,7 @@ Stops n (r ∷ rs) = r .level ≤ n
 -- a layout record has no children
 abbrev pub Leaves : List Rec → Type 0
 Leaves [] = Unit {0}
-Leaves (r ∷ rs) = (r .tag ≡ 69 → Stops (r .level) rs) × Leaves rs
+Leaves (r ∷ rs) = (r .tag ≡ kind.layout → Stops (r .level) rs) × Leaves rs
 
 -- each body's length fits its 32 bits
 abbrev pub Bodies : List Rec → Type 0
@@ -30,18 +31,18 @@ Lacks t (r ∷ k) = (r .tag ≡ t → ⊥) × Lacks t k
 -- at most one record of each tag up to 70
 abbrev pub Once : List Rec → Type 0
 Once [] = Unit {0}
-Once (r ∷ k) = (r .tag ≤ 70 → Lacks (r .tag) k) × Once k
+Once (r ∷ k) = (r .tag ≤ kind.marks → Lacks (r .tag) k) × Once k
 
 -- none of the tags 67 to 70 among owned children
 abbrev pub Free : List Rec → Type 0
 Free [] = Unit {0}
-Free (r ∷ k) = (70 < r .tag) × Free k
+Free (r ∷ k) = (kind.marks < r .tag) × Free k
 
 -- of one record and what follows it: a 67 to 70 has no children, a 66 has at most one of each, and no other record has one
 pub record Rule (r : Rec) (rs : List Rec) : Type 0 where
-  pub leaf : 67 ≤ r .tag → r .tag ≤ 70 → Stops (r .level) rs
-  pub paragraph : r .tag ≡ 66 → Once (kids (suc (r .level)) rs)
-  pub other : (r .tag ≡ 66 → ⊥) → Free (kids (suc (r .level)) rs)
+  pub leaf : kind.text ≤ r .tag → r .tag ≤ kind.marks → Stops (r .level) rs
+  pub paragraph : r .tag ≡ kind.paragraphHeader → Once (kids (suc (r .level)) rs)
+  pub other : (r .tag ≡ kind.paragraphHeader → ⊥) → Free (kids (suc (r .level)) rs)
 
 abbrev pub Each : List Rec → Type 0
 Each [] = Unit {0}

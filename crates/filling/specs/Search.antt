@@ -3,6 +3,7 @@ use Prim.Native.Nat.{ℕ, suc, _+_}
 use mathlib.Core.Bool.{true, false, cond}
 use mathlib.Core.List.{List, [], _∷_, _++_, map}
 use lib.Dec.{eqb}
+use Rattle.records.specs.Kinds as kind
 use Rattle.records.specs.Records.{Rec, size}
 use Rattle.paragraph.specs.View.{view}
 use Rattle.paragraph.specs.Rules.{countsOf}
@@ -15,7 +16,7 @@ use Rattle.filling.specs.Fields.{Field, fields, withId}
 
 -- the place of the first byte of a child's body
 abbrev pub firstByte : Found → ℕ
-firstByte (P.At p) = p .at + p .lead
+firstByte (P.At p) = p .body .0
 firstByte P.Nothing = 0
 
 -- a field with the id: the number of its paragraph, the places of the paragraph header, of the text's first byte and of its control
@@ -34,8 +35,8 @@ hitOf i at r rs f =
     record {
       paragraph = i;
       header = at;
-      text = firstByte (foundIn (suc (r .level)) 67 0 (at + size r) rs);
-      control = placeFound (foundIn (suc (r .level)) 71 (f .ordinal) (at + size r) rs);
+      text = firstByte (foundIn (suc (r .level)) kind.text 0 (at + size r) rs);
+      control = placeFound 0 (foundIn (suc (r .level)) kind.controlHeader (f .ordinal) (at + size r) rs);
       marks = countsOf (r .body) .marks;
       field = f;
     }
@@ -44,7 +45,7 @@ hitOf i at r rs f =
 unfoldable pub hits : ℕ → ℕ → ℕ → List Rec → List Hit
 hits id i at [] = []
 hits id i at (r ∷ rs) =
-    elim (eqb (r .tag) 66) [
+    elim (eqb (r .tag) kind.paragraphHeader) [
       | true ↦ map (hitOf i at r rs) (withId id (view r rs) (fields (view r rs))) ++ hits id (suc i) (at + size r) rs
       | false ↦ hits id i (at + size r) rs
     ]

@@ -15,13 +15,10 @@ pub enum TextAnswer {
     Refused(Refusal),
 }
 
-pub fn text_refused(fault: Fault, place: usize) -> TextAnswer
-    ensures { λ r. ⌜ r ≡ textRefusedAt fault place ⌝ }
+pub fn text_refused(fault: Fault, place: Offset) -> TextAnswer
+    ensures { λ r. ⌜ r ≡ textRefusedAt fault (place .0) ⌝ }
 {
-    TextAnswer::Refused(Refusal {
-        fault,
-        place: Offset(place),
-    })
+    TextAnswer::Refused(Refusal { fault, place })
 }
 
 fn wide(x: u32) -> u64
@@ -66,10 +63,10 @@ pub fn fitting(length: usize, room: usize) -> Answer
     ensures { λ r. ⌜ r ≡ fits length room ⌝ }
 {
     if 16777216 < length {
-        return refused(Fault::SheetTooLong, 0);
+        return refused(Fault::SheetTooLong, Offset(0));
     }
     if room < length {
-        return refused(Fault::BufferTooShort, 0);
+        return refused(Fault::BufferTooShort, Offset(0));
     }
     Answer::Accepted(length)
 }
