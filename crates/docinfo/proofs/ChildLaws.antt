@@ -6,10 +6,9 @@ use mathlib.Core.Path.{_≡_, refl, sym, ap, _∙_}
 use mathlib.Core.Bool.{Bool, true, false, _&&_}
 use mathlib.Core.List.{List, [], _∷_}
 use lib.Dec.{eqb}
-use lib.ListN.{length}
 use borrow.Author.Tests.{lt-ltb, le-ltb, eq-eqb, ne-eqb}
 use Rattle.records.specs.Records.{Rec}
-use Rattle.records.specs.declared.header.Header.{Header}
+use Rattle.records.specs.declared.header.Record.{Record}
 use Rattle.records.proofs.ReadingLaws.{Here}
 use Rattle.docinfo.specs.Children.{keepIf, children, once, tally}
 use Rattle.docinfo.proofs.WalkLaws.{rest, walk-next}
@@ -67,17 +66,18 @@ module _ {s : List ℕ} {from n tag : ℕ} where
         let z : tally tag (children n (rest cap s at)) ≡ 0 = rw e (tally-end tag n) in
         omega (arith, k .left)
 
-    -- behind the last record below the parent
-    pub counting-beyond : {h : Header} → Here s at cap h → h .level < n → met ≡ tally tag (children n (rest n s from))
-    counting-beyond {h} d l =
-        let z : tally tag (children n (rest cap s at)) ≡ 0 = rw (walk-next d) (tally-beyond tag n (d .rec) _ (omega (arith, d .level-is))) in
-        omega (arith, k .left)
+    module _ {r : Record} (d : Here s at cap r) where
+      -- behind the last record below the parent
+      pub counting-beyond : r .level < n → met ≡ tally tag (children n (rest n s from))
+      counting-beyond l =
+          let z : tally tag (children n (rest cap s at)) ≡ 0 = rw (walk-next d) (tally-beyond tag n (d .rec) _ (omega (arith, d .level-is))) in
+          omega (arith, k .left)
 
-    pub counting-next : {h : Header} → Here s at cap h → n ≤ h .level → (x : ℕ) → (x ≡ once (eqb (h .level) n && eqb (h .tag) tag)) × (x ≤ 1)
-        → Counting s from n tag (at + h .lead + h .length) (h .level + 1) (met + x)
-    counting-next {h} d l x e =
-        let left = rest (h .level + 1) s (at + h .lead + h .length) in
-        let one : x ≡ once (eqb (d .rec .level) n && eqb (d .rec .tag) tag) = e .0 ∙ rw (d .level-is, d .tag-is) refl in
-        let step : tally tag (children n (rest cap s at)) ≡ once (eqb (d .rec .level) n && eqb (d .rec .tag) tag) + tally tag (children n left) =
-        ap (λ (rs : List Rec). tally tag (children n rs)) (walk-next d) ∙ tally-next tag n (d .rec) left (omega (arith, d .level-is)) in
-        record { small = omega (arith, k .small, d .size-is, d .size-low, e .1); left = omega (arith, k .left, step, one) }
+      pub counting-next : n ≤ r .level → (x : ℕ) → (x ≡ once (eqb (r .level) n && eqb (r .tag) tag)) × (x ≤ 1)
+          → Counting s from n tag (r .next .0) (r .level + 1) (met + x)
+      counting-next l x e =
+          let left = rest (r .level + 1) s (r .next .0) in
+          let one : x ≡ once (eqb (d .rec .level) n && eqb (d .rec .tag) tag) = e .0 ∙ rw (d .level-is, d .tag-is) refl in
+          let step : tally tag (children n (rest cap s at)) ≡ once (eqb (d .rec .level) n && eqb (d .rec .tag) tag) + tally tag (children n left) =
+          ap (λ (rs : List Rec). tally tag (children n rs)) (walk-next d) ∙ tally-next tag n (d .rec) left (omega (arith, d .level-is)) in
+          record { small = omega (arith, k .small, d .next-is, d .size-low, e .1); left = omega (arith, k .left, step, one) }

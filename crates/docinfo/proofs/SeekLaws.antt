@@ -1,17 +1,15 @@
 -- The laws of the records with a tag, and of the search for the first of them. Assumes nothing.
 use Prim.Native.Nat.{ℕ, _+_}
-use native.Mathlib.Omega.{arith}
 use mathlib.Core.Path.{_≡_, refl, sym, ap, _∙_}
 use mathlib.Core.List.{List, [], _∷_}
-use lib.ListN.{length}
 use borrow.Author.Tests.{eq-eqb, ne-eqb}
 use Rattle.records.specs.Records.{Rec, size}
-use Rattle.records.specs.declared.header.Header.{Header}
+use Rattle.records.specs.declared.header.Record.{Record}
 use Rattle.records.proofs.ReadingLaws.{Here}
 use Rattle.docinfo.specs.Children.{keepIf}
 use Rattle.docinfo.specs.Only.{tagged, soughtOf}
 use Rattle.docinfo.specs.declared.seek.Sought.the-variants as S
-use Rattle.docinfo.proofs.WalkLaws.{rest, walk-head, walk-next}
+use Rattle.docinfo.proofs.WalkLaws.{rest, walk-next}
 
 module _ (t at : ℕ) (r : Rec) (rs : List Rec) where
   pub tagged-here : r .tag ≡ t → tagged t at (r ∷ rs) ≡ record { at = at; it = r; behind = rs } ∷ tagged t (at + size r) rs
@@ -34,23 +32,21 @@ module _ {s : List ℕ} {from most tag at cap : ℕ} (k : Seeking s from most ta
   pub seeking-none : rest cap s at ≡ [] → S.Nothing ≡ soughtOf (tagged tag from (rest most s from))
   seeking-none e = sym (ap soughtOf (k .left ∙ ap (tagged tag at) e ∙ tagged-none tag at))
 
-  module _ {h : Header} (d : Here s at cap h) where
+  module _ {r : Record} (d : Here s at cap r) where
     abbrev onward : List Rec
-    onward = rest (h .level + 1) s (at + h .lead + h .length)
+    onward = rest (r .level + 1) s (r .next .0)
 
-    pub seeking-here : h .tag ≡ tag → S.Record (record { place = record { 0 = at }; header = h }) ≡ soughtOf (tagged tag from (rest most s from))
+    pub seeking-here : r .tag ≡ tag → S.Record r ≡ soughtOf (tagged tag from (rest most s from))
     seeking-here e =
-        sym
-        (ap soughtOf (k .left ∙ ap (tagged tag at) (walk-next d) ∙ tagged-here tag at (d .rec) onward (sym (d .tag-is) ∙ e))
-        ∙ ap (λ (g : Header). S.Record (record { place = record { 0 = at }; header = g })) (sym (walk-head d)))
+        ap S.Record (d .is)
+        ∙ sym (ap soughtOf (k .left ∙ ap (tagged tag at) (walk-next d) ∙ tagged-here tag at (d .rec) onward (sym (d .tag-is) ∙ e)))
 
-    pub seeking-next : (h .tag ≡ tag → ⊥) → Seeking s from most tag (at + h .lead + h .length) (h .level + 1)
+    pub seeking-next : (r .tag ≡ tag → ⊥) → Seeking s from most tag (r .next .0) (r .level + 1)
     seeking-next e =
-        let to : at + size (d .rec) ≡ at + h .lead + h .length = omega (arith, d .size-is) in
         record {
           left =
               k .left
               ∙ ap (tagged tag at) (walk-next d)
               ∙ tagged-other tag at (d .rec) onward (λ q. e (d .tag-is ∙ q))
-              ∙ ap (λ (a : ℕ). tagged tag a onward) to;
+              ∙ ap (λ (a : ℕ). tagged tag a onward) (sym (d .next-is));
         }

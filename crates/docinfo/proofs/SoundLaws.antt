@@ -14,7 +14,7 @@ use Rattle.numbers.specs.Little.{span}
 use Rattle.records.specs.Records.{Rec, encode, size}
 use Rattle.records.proofs.ScanLaws.{length-encode}
 use Rattle.docinfo.specs.Children.{tally}
-use Rattle.docinfo.specs.Only.{Placed, tagged, one, only}
+use Rattle.docinfo.specs.Only.{Placed, tagged}
 use Rattle.docinfo.specs.Counts.{countAt, negative, negativeFrom, sumFrom, groups, unmatched, orElse, countFault}
 use Rattle.docinfo.specs.Sound.{Lacks, CountsHold}
 use Rattle.docinfo.specs.declared.counts.Group.{Group}

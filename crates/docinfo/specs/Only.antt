@@ -4,11 +4,10 @@ use mathlib.Core.Bool.{cond}
 use mathlib.Core.List.{List, [], _∷_}
 use lib.Dec.{eqb}
 use lib.ListN.{length, take, drop}
-use Rattle.records.specs.Records.{Rec, leadOf, size}
-use Rattle.records.specs.Reading.{readFrom}
-use Rattle.records.specs.declared.header.Header.{Header}
+use Rattle.records.specs.Records.{Rec, size}
+use Rattle.records.specs.Reading.{offset, recordAt, readFrom}
+use Rattle.records.specs.declared.header.Record.{Record}
 use Rattle.docinfo.specs.Children.{keepIf}
-use Rattle.docinfo.specs.declared.seek.Met.{Met}
 use Rattle.docinfo.specs.declared.seek.Sought.{Sought}
 use Rattle.docinfo.specs.declared.seek.Sought.the-variants as S
 use Rattle.docinfo.specs.declared.seek.Sole.{Sole}
@@ -39,32 +38,29 @@ onlyOf (p ∷ q ∷ qs) = wrong (cond (eqb (p .it .level) 0) (q .at) (p .at))
 unfoldable pub only : ℕ → List Rec → Only
 only t rs = onlyOf (tagged t 0 rs)
 
--- ---- the same as a header's numbers
+-- ---- the same as the code's records
 
-abbrev pub headOf : Rec → Header
-headOf r = record { tag = r .tag; level = r .level; lead = leadOf (length (r .body)); length = length (r .body) }
-
-abbrev pub metOf : Placed → Met
-metOf p = record { place = record { 0 = p .at }; header = headOf (p .it) }
+abbrev pub recordOf : Placed → Record
+recordOf p = recordAt (p .at) (p .it)
 
 -- the first of them
 abbrev pub soughtOf : List Placed → Sought
 soughtOf [] = S.Nothing
-soughtOf (p ∷ ps) = S.Record (metOf p)
+soughtOf (p ∷ ps) = S.Record (recordOf p)
 
 abbrev pub soleOf : Only → Sole
-soleOf (one p) = O.One (metOf p)
-soleOf (wrong a) = O.Wrong (record { 0 = a })
+soleOf (one p) = O.One (recordOf p)
+soleOf (wrong a) = O.Wrong (offset a)
 
--- the record that a header names in a stream
-abbrev pub placedAt : List ℕ → Met → Placed
-placedAt s m =
+-- what a record is in a stream
+abbrev pub placedAt : List ℕ → Record → Placed
+placedAt s r =
     record {
-      at = m .place .0;
-      it = record { tag = m .header .tag; level = m .header .level; body = take (m .header .length) (drop (m .place .0 + m .header .lead) s) };
-      behind = readFrom (m .header .level + 1) 0 (drop (m .place .0 + m .header .lead + m .header .length) s) .recs;
+      at = r .at .0;
+      it = record { tag = r .tag; level = r .level; body = take (r .length) (drop (r .body .0) s) };
+      behind = readFrom (r .level + 1) 0 (drop (r .next .0) s) .recs;
     }
 
 -- its last byte is in the stream
-abbrev pub Within : List ℕ → Met → Type 0
-Within s m = m .place .0 + m .header .lead + m .header .length ≤ length s
+abbrev pub Within : List ℕ → Record → Type 0
+Within s r = r .body .0 + r .length ≤ length s

@@ -1,6 +1,7 @@
 // The children of a record.
-use records::Front;
-use records::first;
+use records::Ahead;
+use records::Offset;
+use records::record_at;
 ghost use mathlib.Core.Path.{_≡_};
 ghost use mathlib.Core.Bool.{_&&_};
 ghost use Prim.Native.Nat.{_≤_};
@@ -22,26 +23,21 @@ fn one_if(level: u32, n: u32, tag: u32, wanted: u32) -> usize
 }
 
 // How many children at level n have the tag, among the records from `from` on.
-pub fn count_children(s: &[u8], from: usize, n: u32, tag: u32) -> usize
-    ensures { λ r. ⌜ r ≡ tally tag (children n (readFrom n 0 (drop from (now (s .entry))) .recs)) ⌝ }
+pub fn count_children(s: &[u8], from: Offset, n: u32, tag: u32) -> usize
+    ensures { λ r. ⌜ r ≡ tally tag (children n (readFrom n 0 (drop (from .0) (now (s .entry))) .recs)) ⌝ }
 {
     let mut at = from;
     let mut cap = n;
     let mut met: usize = 0;
-    while at < s.len() {
-        match first(&s[at..], cap) {
-            Front::Record(h) => {
-                if h.level < n {
-                    return met;
-                }
-                met = met + one_if(h.level, n, h.tag, tag);
-                at = at + h.lead + h.length;
-                cap = h.level + 1;
-            }
-            Front::Refused(_) => {
-                return met;
-            }
+    loop {
+        let Ahead::Record(r) = record_at(s, at, cap) else {
+            return met;
+        };
+        if r.level < n {
+            return met;
         }
+        met = met + one_if(r.level, n, r.tag, tag);
+        at = r.next;
+        cap = r.level + 1;
     }
-    met
 }

@@ -1,6 +1,7 @@
 // The counts of record 17, and what they are matched with.
 use crate::children::count_children;
 use numbers::number16;
+use records::Offset;
 ghost use mathlib.Core.Path.{_≡_};
 ghost use Prim.Native.Nat.{_+_, _≤_, _<_};
 ghost use lib.ListN.{drop};
@@ -123,8 +124,8 @@ fn sum_counts(body: &[u8], first: usize, many: usize) -> usize
 }
 
 // The first count of the first group that is not matched by the children among the records from `behind` on.
-fn first_unmatched(s: &[u8], body: &[u8], behind: usize) -> Verdict
-    ensures { λ r. ⌜ r ≡ verdictOf (unmatched 2 (now (body .entry)) (children 1 (readFrom 1 0 (drop behind (now (s .entry))) .recs)) groups) ⌝ }
+fn first_unmatched(s: &[u8], body: &[u8], behind: Offset) -> Verdict
+    ensures { λ r. ⌜ r ≡ verdictOf (unmatched 2 (now (body .entry)) (children 1 (readFrom 1 0 (drop (behind .0) (now (s .entry))) .recs)) groups) ⌝ }
 {
     let mut i: usize = 0;
     while i < 10 {
@@ -139,8 +140,8 @@ fn first_unmatched(s: &[u8], body: &[u8], behind: usize) -> Verdict
 }
 
 // The count of record 17 that is at fault: the first that is negative, else the first in a group that is not matched.
-pub fn judge_counts(s: &[u8], body: &[u8], behind: usize) -> Verdict
-    ensures { λ r. ⌜ r ≡ verdictOf (countFault 2 (now (body .entry)) (children 1 (readFrom 1 0 (drop behind (now (s .entry))) .recs))) ⌝ }
+pub fn judge_counts(s: &[u8], body: &[u8], behind: Offset) -> Verdict
+    ensures { λ r. ⌜ r ≡ verdictOf (countFault 2 (now (body .entry)) (children 1 (readFrom 1 0 (drop (behind .0) (now (s .entry))) .recs))) ⌝ }
 {
     match first_negative(body) {
         Verdict::Fault(i) => Verdict::Fault(i),

@@ -1,11 +1,12 @@
 // The DocInfo read.
 use crate::counts::Verdict;
 use crate::counts::judge_counts;
-use crate::seek::Met;
 use crate::seek::Sole;
 use crate::seek::only;
+use numbers::part;
 use records::Answer;
 use records::Fault;
+use records::Record;
 use records::refused;
 ghost use mathlib.Core.Path.{_≡_};
 ghost use Rattle.records.specs.Reading.{readAll};
@@ -14,26 +15,20 @@ ghost use Rattle.docinfo.specs.Only.{placedAt, Within};
 ghost use Rattle.docinfo.specs.DocInfo.{bodiesFault, docinfoFault, ruled, docinfoAnswer};
 
 // 17 for record 16, 17 for record 17, 18; else n records are accepted.
-fn judge_bodies(s: &[u8], n: usize, properties: Met, mappings: Met) -> Answer
-    requires { ⌜ (Within (now s) properties) × (Within (now s) mappings) × (mappings .header .level ≡ 0) ⌝ }
+fn judge_bodies(s: &[u8], n: usize, properties: Record, mappings: Record) -> Answer
+    requires { ⌜ (Within (now s) properties) × (Within (now s) mappings) × (mappings .level ≡ 0) ⌝ }
     ensures { λ r. ⌜ r ≡ ruled n (bodiesFault (placedAt (now (s .entry)) properties) (placedAt (now (s .entry)) mappings)) ⌝ }
 {
-    let p = properties.header;
-    let p_place = properties.place;
-    if p.length < 30 {
-        return refused(Fault::DocInfoLength, p_place.0);
+    if properties.length < 30 {
+        return refused(Fault::DocInfoLength, properties.at);
     }
-    let m = mappings.header;
-    let m_place = mappings.place;
-    let at = m_place.0;
-    if m.length != 32 {
-        return refused(Fault::DocInfoLength, at);
+    if mappings.length != 32 {
+        return refused(Fault::DocInfoLength, mappings.at);
     }
-    let from = at + m.lead;
-    let to = from + m.length;
-    match judge_counts(s, &s[from..to], to) {
+    let body = mappings.body;
+    match judge_counts(s, part(s, body.0, mappings.length), mappings.next) {
         Verdict::Sound => Answer::Accepted(n),
-        Verdict::Fault(_) => refused(Fault::CountUnmatched, at),
+        Verdict::Fault(_) => refused(Fault::CountUnmatched, mappings.at),
     }
 }
 
@@ -42,9 +37,9 @@ fn judge(s: &[u8], n: usize) -> Answer
     ensures { λ r. ⌜ r ≡ ruled n (docinfoFault (readAll (now (s .entry)) .recs)) ⌝ }
 {
     match only(s, 16) {
-        Sole::Wrong(p) => refused(Fault::DocInfoRecord, p.0),
+        Sole::Wrong(p) => refused(Fault::DocInfoRecord, p),
         Sole::One(properties) => match only(s, 17) {
-            Sole::Wrong(p) => refused(Fault::DocInfoRecord, p.0),
+            Sole::Wrong(p) => refused(Fault::DocInfoRecord, p),
             Sole::One(mappings) => judge_bodies(s, n, properties, mappings),
         },
     }

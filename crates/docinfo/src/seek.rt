@@ -1,75 +1,58 @@
 // Looking for the only record with a tag.
-use records::Front;
-use records::Header;
+use records::Ahead;
 use records::Offset;
-use records::first;
+use records::Record;
+use records::record_at;
 ghost use mathlib.Core.Path.{_≡_};
 ghost use lib.ListN.{drop};
 ghost use Rattle.records.specs.Reading.{readFrom, readAll};
 ghost use Rattle.docinfo.specs.Only.{tagged, soughtOf, soleOf, only};
 
-// A record that was met: where its header stands, and what that says.
-pub struct Met {
-    pub place: Offset,
-    pub header: Header,
-}
-
 pub enum Sought {
-    Record(Met),
+    Record(Record),
     Nothing,
 }
 
 // The only record with a tag, or the place that a refusal names.
 pub enum Sole {
-    One(Met),
+    One(Record),
     Wrong(Offset),
 }
 
 // The first record with a tag from `from` on, where the next level may be at most `most`.
-fn seek(s: &[u8], from: usize, most: u32, tag: u32) -> Sought
-    ensures { λ r. ⌜ r ≡ soughtOf (tagged tag from (readFrom most 0 (drop from (now (s .entry))) .recs)) ⌝ }
+fn seek(s: &[u8], from: Offset, most: u32, tag: u32) -> Sought
+    ensures { λ r. ⌜ r ≡ soughtOf (tagged tag (from .0) (readFrom most 0 (drop (from .0) (now (s .entry))) .recs)) ⌝ }
 {
     let mut at = from;
     let mut cap = most;
-    while at < s.len() {
-        match first(&s[at..], cap) {
-            Front::Record(h) => {
-                if h.tag == tag {
-                    return Sought::Record(Met {
-                        place: Offset(at),
-                        header: h,
-                    });
-                }
-                at = at + h.lead + h.length;
-                cap = h.level + 1;
-            }
-            Front::Refused(_) => {
-                return Sought::Nothing;
-            }
+    loop {
+        let Ahead::Record(r) = record_at(s, at, cap) else {
+            return Sought::Nothing;
+        };
+        if r.tag == tag {
+            return Sought::Record(r);
         }
+        at = r.next;
+        cap = r.level + 1;
     }
-    Sought::Nothing
 }
 
 // The only record with a tag, at level 0: else 0 where it is absent, or the first that is not at level 0 or is the second.
 pub fn only(s: &[u8], tag: u32) -> Sole
     ensures { λ r. ⌜ r ≡ soleOf (only tag (readAll (now (s .entry)) .recs)) ⌝ }
 {
-    let Sought::Record(m) = seek(s, 0, 0, tag) else {
+    let Sought::Record(r) = seek(s, Offset(0), 0, tag) else {
         return Sole::Wrong(Offset(0));
     };
-    let place = m.place;
-    let h = m.header;
-    if h.level != 0 {
-        return Sole::Wrong(place);
+    if r.level != 0 {
+        let low = r.at;
+        return Sole::Wrong(low);
     }
-    let at = place.0;
-    let behind = at + h.lead + h.length;
-    match seek(s, behind, 1, tag) {
+    match seek(s, r.next, 1, tag) {
         Sought::Record(second) => {
-            let doubled = second.place;
+            let doubled = second.at;
             Sole::Wrong(doubled)
         }
-        Sought::Nothing => Sole::One(m),
+        Sought::Nothing => Sole::One(r),
     }
 }

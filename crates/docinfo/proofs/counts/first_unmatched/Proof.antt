@@ -15,7 +15,7 @@ use Rattle.docinfo.proofs.counts.row.Reads as row-reads
 use Rattle.docinfo.proofs.counts.sum_counts.Reads as sum-counts-reads
 
 abbrev Inv-loop : tie.InvT-loop
-Inv-loop s body behind i₀ i = Matching 2 body (children 1 (rest 1 s behind)) i
+Inv-loop s body behind i₀ i = Matching 2 body (children 1 (rest 1 s (behind .0))) i
 
 abbrev μ-loop : tie.MeasureT-loop
 μ-loop s body behind i₀ i = 10 - i
