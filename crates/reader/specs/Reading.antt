@@ -1,22 +1,23 @@
--- The walk that keeps the bytes and the position together (document 01, 'Text units': stepping hands back the walk at the next position).
-use Prim.Native.Nat.{ℕ}
+-- The walk that keeps the bytes and the position together (document 01, 'Text units': the text walk keeps the paragraph's bytes and its
+-- present position together).
+use Prim.Native.Nat.{ℕ, _+_}
 use mathlib.Core.List.{List}
-use denote.Ref.{RefT}
+use lib.ListN.{drop}
+use denote.Ref.{RefT, now}
+use Rattle.text.specs.Units.{units}
+use Rattle.text.specs.Walk.{run}
 use Rattle.text.specs.Answers.{place, stepAt}
 use Rattle.text.specs.declared.Position.{Position}
 use Rattle.text.specs.declared.Step.{Step}
-use Rattle.text.specs.declared.Step.the-variants.{Stands, Broken, End}
 use Rattle.reader.specs.declared.Reader.{Reader}
 
 abbrev pub reader : RefT (List ℕ) → Position → Reader
 reader text at = record { text = text; at = at }
 
--- the position that a step hands back; where nothing stands, the one it was made from
-abbrev pub onward : Position → Step → Position
-onward at (Stands p s next) = next .at
-onward at (Broken p) = at
-onward at End = at
+-- the same walk at the next unit below 32, or at the end
+abbrev pub ahead : Reader → Reader
+ahead r = reader (r .text) (place (r .at .0 + run (drop (r .at .0) (units (now (r .text))))))
 
--- what stands behind what stands first
-abbrev pub secondOf : List ℕ → Step
-secondOf us = stepAt us (onward (place 0) (stepAt us 0) .0)
+-- what stands where the walk stands
+abbrev pub standing : Reader → Step
+standing r = stepAt (units (now (r .text))) (r .at .0)

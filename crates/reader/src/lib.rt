@@ -2,18 +2,31 @@
 // No function over a struct that holds a slice is covered, so each is proved by hand, and each is thin: it takes the walk
 // apart and leaves the work to a covered function on the slice and the position.
 ghost use mathlib.Core.Path.{_≡_};
-ghost use Prim.Native.Nat.{_*_};
+ghost use Prim.Native.Nat.{_+_};
 ghost use lib.ListN.{drop};
 ghost use Rattle.text.specs.Units.{units};
-ghost use Rattle.text.specs.Answers.{place, stepAt};
-ghost use Rattle.reader.specs.Reading.{onward, reader, secondOf};
+ghost use Rattle.text.specs.Walk.{run, isExtended};
+ghost use Rattle.text.specs.Answers.{place, stepAt, controlAt, judged};
+ghost use Rattle.reader.specs.Reading.{reader, ahead, standing};
+use text::Class;
 use text::Cursor;
+use text::Judged;
 use text::Position;
+use text::Standing;
 use text::Step;
 
 pub struct Reader<'a> {
     pub text: &'a [u8],
     pub at: Position,
+}
+
+// The position of the next unit below 32, or the end.
+fn control_from(text: &[u8], at: Position) -> Position
+    ensures { λ r. ⌜ r ≡ place (at .0 + run (drop (at .0) (units (now (text .entry))))) ⌝ }
+{
+    let cursor = Cursor { at };
+    let control = cursor.past_ordinary(text);
+    control.at
 }
 
 // What stands at a position.
@@ -24,77 +37,79 @@ fn step_at(text: &[u8], at: Position) -> Step
     cursor.step(text)
 }
 
-// The position behind what stands at a position; where nothing does, the position itself.
-fn behind(text: &[u8], at: Position) -> Position
-    ensures { λ r. ⌜ r ≡ onward at (stepAt (units (now (text .entry))) (at .0)) ⌝ }
+// The walk at a position of a text.
+pub fn walk_from<'a>(text: &'a [u8], at: Position) -> Reader<'a>
+    ensures { λ r. ⌜ r ≡ reader (text .entry) at ⌝ }
 {
-    let step = step_at(text, at);
-    match step {
-        Step::Stands {
-            at: _,
-            what: _,
-            next,
-        } => next.at,
-        Step::Broken(_) => at,
-        Step::End => at,
-    }
+    Reader { text, at }
 }
 
-// The bytes from a position on.
-fn rest_at<'a>(text: &'a [u8], at: Position) -> &'a [u8]
-    ensures { λ r. ⌜ now r ≡ drop (2 * at .0) (now (text .entry)) ⌝ }
+// The walk at the next unit below 32, or at the end.
+pub fn past_ordinary<'a>(r: Reader<'a>) -> Reader<'a>
+    ensures { λ q. ⌜ q ≡ ahead (r .entry) ⌝ }
 {
-    let p = at.0;
-    let n = text.len();
-    if p <= n / 2 {
-        let from = 2 * p;
-        return &text[from..];
-    }
-    &text[n..]
+    let at = control_from(r.text, r.at);
+    Reader { text: r.text, at }
 }
 
-// A walk at the start of a text.
-pub fn make<'a>(text: &'a [u8]) -> Reader<'a>
-    ensures { λ r. ⌜ r ≡ reader (text .entry) (place 0) ⌝ }
-{
-    Reader {
-        text,
-        at: Position(0),
-    }
-}
-
-// Where the walk stands.
-pub fn place<'a>(r: Reader<'a>) -> Position
-    ensures { λ p. ⌜ p ≡ r .entry .at ⌝ }
-{
-    r.at
-}
-
-// What stands there.
+// What stands where the walk stands.
 pub fn stands<'a>(r: Reader<'a>) -> Step
-    ensures { λ s. ⌜ s ≡ stepAt (units (now (r .entry .text))) (r .entry .at .0) ⌝ }
+    ensures { λ s. ⌜ s ≡ standing (r .entry) ⌝ }
 {
     step_at(r.text, r.at)
 }
 
-// The walk at the next position.
-pub fn step<'a>(r: Reader<'a>) -> Reader<'a>
-    ensures { λ q. ⌜ q ≡ reader (r .entry .text) (onward (r .entry .at) (stepAt (units (now (r .entry .text))) (r .entry .at .0))) ⌝ }
+// What stands at the next unit below 32, and the walk behind it: its contract says nothing of a reader, so whoever calls it needs no
+// walk by hand.
+pub fn next_control(text: &[u8], from: Position) -> Step
+    ensures { λ r. ⌜ r ≡ controlAt (units (now (text .entry))) (from .0) ⌝ }
 {
-    let at = behind(r.text, r.at);
-    Reader { text: r.text, at }
+    stands(past_ordinary(walk_from(text, from)))
 }
 
-// The bytes that are left.
-pub fn rest<'a>(r: Reader<'a>) -> &'a [u8]
-    ensures { λ s. ⌜ now s ≡ drop (2 * r .entry .at .0) (now (r .entry .text)) ⌝ }
+// 1 of an extended control, else 0.
+fn extended(what: Standing) -> usize
+    ensures { λ r. ⌜ r ≡ isExtended what ⌝ }
 {
-    rest_at(r.text, r.at)
+    match what {
+        Standing::Ordinary(_) => 0,
+        Standing::Control(c) => {
+            let class = c.class;
+            match class {
+                Class::Character => 0,
+                Class::Inline => 0,
+                Class::Extended => 1,
+            }
+        }
+    }
 }
 
-// What stands second in a text: its contract says nothing of a reader, so whoever calls it needs no walk by hand.
-pub fn second(text: &[u8]) -> Step
-    ensures { λ s. ⌜ s ≡ secondOf (units (now (text .entry))) ⌝ }
+// Walks a whole text. One without a unit, or with ordinary units at its end, lacks its 13.
+pub fn judge(text: &[u8]) -> Judged
+    ensures { λ r. ⌜ r ≡ judged (units (now (text .entry))) ⌝ }
 {
-    stands(step(make(text)))
+    if text.len() < 2 {
+        return Judged::Broken(Position(0));
+    }
+    let mut at = Position(0);
+    let mut count = 0;
+    loop {
+        match next_control(text, at) {
+            Step::Stands { at: _, what, next } => {
+                count += extended(what);
+                at = next.at;
+            }
+            Step::Broken(p) => {
+                return Judged::Broken(p);
+            }
+            Step::End => {
+                break;
+            }
+        }
+    }
+    let n = text.len() / 2;
+    if at.0 < n {
+        return Judged::Broken(Position(n));
+    }
+    Judged::Sound(count)
 }

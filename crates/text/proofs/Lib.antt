@@ -3,7 +3,7 @@ pub mod UnitLaws
 pub mod TableLaws
 pub mod WalkLaws
 pub mod StepLaws
-pub mod JudgeLaws
 pub mod SoundLaws
 pub mod PartLaws
 pub mod RunLaws
+pub mod ControlLaws

@@ -1,13 +1,13 @@
 -- The walk's clauses: what stands at a position, and the walk behind it. Assumes nothing.
 use Prim.Native.Nat.{ℕ, zero, suc, _+_, _-_, _≤_, _<_}
 use native.Mathlib.Omega.{arith}
-use mathlib.Core.Path.{_≡_, refl, ap}
+use mathlib.Core.Path.{_≡_, refl, sym, ap, _∙_}
 use mathlib.Core.Logic.{_⊎_, inl, inr}
 use mathlib.Core.Bool.{Bool, true, false, cond, not}
 use mathlib.Core.Option.{none, some}
 use mathlib.Core.List.{List, [], _∷_}
 use lib.Dec.{ltb, eqb}
-use lib.ListN.{length, getD, drop, length-drop}
+use lib.ListN.{length, getD, drop, length-drop, drop-of-length-le}
 use lib.Seq.{drop-cons, drop-drop, drop-nil, getD-drop}
 use borrow.Author.Tests.{le-ltb, eq-eqb, ne-eqb, ltb-false, eqb-true, eqb-false, not-false}
 use Rattle.text.specs.Walk.{what, width, Front, stands, broken, over, frontOf, front, Token, walk, tokensAt, fault, faultAt}
@@ -16,7 +16,7 @@ use Rattle.text.specs.declared.Standing.{Standing}
 use Rattle.text.specs.declared.Position.{Position}
 use Rattle.text.specs.declared.Cursor.{Cursor}
 use Rattle.text.specs.declared.Step.the-variants as step
-use Rattle.text.proofs.Cases.{eq-or}
+use Rattle.text.proofs.Cases.{lt-or, eq-or}
 use Rattle.text.proofs.TableLaws.{width-or}
 
 -- ---- what stands at the front
@@ -40,7 +40,7 @@ pub record Stood (u n left last : ℕ) : Type 0 where
   pub closed : last ≡ u
   pub ends : ((u ≡ 13) × (left ≡ n)) ⊎ ((u ≡ 13 → ⊥) × (n < left))
 
-stood-front : (u n left last : ℕ) → Stood u n left last → frontOf u n left last ≡ stands (what u)
+pub stood-front : (u n left last : ℕ) → Stood u n left last → frontOf u n left last ≡ stands (what u)
 unfolding frontOf
 stood-front u n left last h = rw (ne-eqb u 0 (h .known), le-ltb left n (h .whole), eq-eqb last u (h .closed)) (go (h .ends))
   where
@@ -145,6 +145,7 @@ width-pos s = elim (width-or s) [ inl e ↦ omega arith | inr e ↦ omega arith 
 
 -- a token stands at the front, and the walk goes on behind it
 pub record Passed (p : ℕ) (us : List ℕ) (s : Standing) : Type 0 where
+  pub begins : s ≡ what (getD us 0 0)
   pub wide : 0 < width s
   pub fits : width s ≤ length us
   pub tokens : walk p 0 us ≡ record { at = p; what = s } ∷ walk (p + width s) 0 (drop (width s) us)
@@ -159,6 +160,7 @@ passed p (u ∷ us) s e = go (front-stands u us s e)
     go t =
         rw (t .1)
         (record {
+          begins = refl;
           wide = width-pos (what u);
           fits = t .0 .whole;
           tokens = ap (λ (r : List Token). record { at = p; what = what u } ∷ r) (behind walk walk-skip p u (width (what u)) us (width-pos (what u)));
@@ -169,6 +171,7 @@ passed p (u ∷ us) s e = go (front-stands u us s e)
 
 -- the walk stands at p before s and goes on at q
 pub record Onward (us : List ℕ) (p : ℕ) (s : Standing) (q : ℕ) : Type 0 where
+  pub begins : s ≡ what (getD us p 0)
   pub further : q ≡ p + width s
   pub rises : p < q
   pub fits : q ≤ length us
@@ -179,7 +182,9 @@ onward : (us : List ℕ) (p : ℕ) (s : Standing) → front (drop p us) ≡ stan
 onward us p s e =
     let t = passed p (drop p us) s e in
     let d : drop (width s) (drop p us) ≡ drop (p + width s) us = drop-drop (width s) p us in
+    let z : p + 0 ≡ p = omega arith in
     record {
+      begins = t .begins ∙ rw (getD-drop p us 0 0, z);
       further = refl;
       rises = omega (arith, t .wide);
       fits = omega (arith, t .wide, simp length-drop at (t .fits));
@@ -200,7 +205,7 @@ step-stands us p a s c e = go (front (drop p us)) refl e
     go (broken d) h q = absurd (let z : _≡_ {A = ℕ} 0 1 = cc in omega arith)
     go over h q = absurd (let z : _≡_ {A = ℕ} 0 1 = cc in omega arith)
 
-fault-front : (p d : ℕ) (us : List ℕ) → front us ≡ broken d → fault p 0 us ≡ some (p + d)
+pub fault-front : (p d : ℕ) (us : List ℕ) → front us ≡ broken d → fault p 0 us ≡ some (p + d)
 unfolding front fault
 fault-front p d [] e = absurd (let z : _≡_ {A = ℕ} 0 1 = cc in omega arith)
 fault-front p d (u ∷ us) e = rw e
@@ -219,15 +224,19 @@ over-of p (stands s) e = absurd (let z : _≡_ {A = ℕ} 0 1 = cc in omega arith
 over-of p (broken d) e = absurd (let z : _≡_ {A = ℕ} 0 1 = cc in omega arith)
 over-of p over e = refl
 
+-- where no step is left, no unit is
+pub step-past : (us : List ℕ) (p : ℕ) → stepAt us p ≡ step.End → length us ≤ p
+unfolding stepAt front
+step-past us p e = elim (lt-or p (length us)) [
+  | inl h ↦ absurd (some-left _ _ _ _ (sym (front-at us p h) ∙ over-of p (front (drop p us)) e))
+  | inr h ↦ h
+]
+
 -- no token is left
 pub record Ended (us : List ℕ) (p : ℕ) : Type 0 where
   pub tokens : tokensAt us p ≡ []
   pub fault : faultAt us p ≡ none
 
-pub step-end : (us : List ℕ) (p : ℕ) → stepAt us p ≡ step.End → Ended us p
-unfolding stepAt front walk fault
-step-end us p e = go (drop p us) refl e
-  where
-    go : (l : List ℕ) → drop p us ≡ l → stepOf p (front l) ≡ step.End → Ended us p
-    go [] d q = record { tokens = rw d; fault = rw d }
-    go (u ∷ l) d q = absurd (front-left u l (over-of p (front (u ∷ l)) q))
+pub past-ended : (us : List ℕ) (p : ℕ) → length us ≤ p → Ended us p
+unfolding walk fault
+past-ended us p h = let d : drop p us ≡ [] = drop-of-length-le us h in record { tokens = rw d; fault = rw d }

@@ -4,7 +4,7 @@ use Prim.Native.Nat.{ℕ, _+_}
 use mathlib.Core.Option.{Option, none, some}
 use mathlib.Core.List.{List}
 use lib.ListN.{drop}
-use Rattle.text.specs.Walk.{Front, stands, broken, over, front, width, textFault, extendedCount}
+use Rattle.text.specs.Walk.{Front, stands, broken, over, front, width, run, textFault, extendedCount}
 use Rattle.text.specs.declared.Position.{Position}
 use Rattle.text.specs.declared.Cursor.{Cursor}
 use Rattle.text.specs.declared.Step.{Step}
@@ -26,6 +26,11 @@ stepOf p over = End
 
 unfoldable pub stepAt : List ℕ → ℕ → Step
 stepAt us p = stepOf p (front (drop p us))
+
+-- the step at the next unit below 32 from position p on; End where there is none (document 01, 'Filling a field': 'the next unit below 32
+-- after it')
+unfoldable pub controlAt : List ℕ → ℕ → Step
+controlAt us p = stepAt us (p + run (drop p us))
 
 -- a sound text with its number of extended controls, else its first fault
 abbrev pub verdict : Option ℕ → ℕ → Judged

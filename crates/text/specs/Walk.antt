@@ -94,16 +94,15 @@ abbrev pub AllOrdinary : List ℕ → Type 0
 AllOrdinary [] = Unit {0}
 AllOrdinary (u ∷ us) = (32 ≤ u) × AllOrdinary us
 
--- how many ordinary units stand before the first unit below 32, the last unit left aside
+-- how many ordinary units stand before the first unit below 32; all of them where there is none
 unfoldable pub run : List ℕ → ℕ
 run [] = 0
-run (u ∷ []) = 0
-run (u ∷ v ∷ us) = elim (ltb u 32) [ true ↦ 0 | false ↦ suc (run (v ∷ us)) ]
+run (u ∷ us) = elim (ltb u 32) [ true ↦ 0 | false ↦ suc (run us) ]
 
--- the four units from position p on are ordinary and stand before a position
-unfoldable pub fourBefore : ℕ → ℕ → List ℕ → Bool
-fourBefore end p us =
-    leb (p + 4) end
+-- the four units from position p on are there and ordinary
+unfoldable pub fourOrdinary : List ℕ → ℕ → Bool
+fourOrdinary us p =
+    leb (p + 4) (length us)
     && (leb 32 (getD us p 0) && (leb 32 (getD us (p + 1) 0) && (leb 32 (getD us (p + 2) 0) && leb 32 (getD us (p + 3) 0))))
 
 -- 1 of an extended control, else 0

@@ -1,11 +1,11 @@
 // A paragraph's text: what stands at each position, and whether the text keeps its rules.
 use numbers::number16;
 ghost use mathlib.Core.Path.{_≡_};
-ghost use Prim.Native.Nat.{_+_, _-_, _*_, _/_, _≤_, _<_};
+ghost use Prim.Native.Nat.{_+_, _/_, _≤_, _<_};
 ghost use lib.ListN.{length, getD, drop};
 ghost use Rattle.text.specs.Units.{units};
-ghost use Rattle.text.specs.Walk.{classOf, what, width, run, fourBefore, isExtended};
-ghost use Rattle.text.specs.Answers.{stepAt, cursor, judged};
+ghost use Rattle.text.specs.Walk.{classOf, what as begins, width, frontOf, run, fourOrdinary};
+ghost use Rattle.text.specs.Answers.{stepOf, stepAt, cursor};
 
 // A position of the text, in units; it is never added to a byte offset.
 pub struct Position(pub usize);
@@ -52,12 +52,13 @@ pub enum Judged {
 }
 
 // The unit at a position, or 0 where there is none.
-fn unit(text: &[u8], p: usize) -> u32
-    ensures { λ r. ⌜ r ≡ getD (units (now (text .entry))) p 0 ⌝ }
+fn unit(text: &[u8], at: Position) -> u32
+    ensures { λ r. ⌜ r ≡ getD (units (now (text .entry))) (at .0) 0 ⌝ }
 {
+    let p = at.0;
     if p < text.len() / 2 {
-        let at = 2 * p;
-        number16(&text[at..])
+        let from = 2 * p;
+        number16(&text[from..])
     } else {
         0
     }
@@ -82,7 +83,7 @@ fn class_of(code: usize) -> Class
 
 // What a unit begins.
 fn begun(u: u32) -> Standing
-    ensures { λ r. ⌜ r ≡ what u ⌝ }
+    ensures { λ r. ⌜ r ≡ begins u ⌝ }
 {
     if 32 <= u {
         return Standing::Ordinary(u);
@@ -95,7 +96,7 @@ fn begun(u: u32) -> Standing
 
 // How many positions it takes.
 fn positions(what: Standing) -> usize
-    ensures { λ r. ⌜ (r ≡ width what) × (1 ≤ r) ⌝ }
+    ensures { λ r. ⌜ (r ≡ width what) × ((1 ≤ r) × (r ≤ 8)) ⌝ }
 {
     match what {
         Standing::Ordinary(_) => 1,
@@ -110,20 +111,13 @@ fn positions(what: Standing) -> usize
     }
 }
 
-// The position of the last unit; 0 where there is none.
-fn last(text: &[u8]) -> usize
-    ensures { λ r. ⌜ r ≡ length (now (text .entry)) / 2 - 1 ⌝ }
+// The next four units are there and ordinary.
+fn four_ordinary(text: &[u8], at: Position) -> bool
+    requires { ⌜ at .0 < length (now text) / 2 ⌝ }
+    ensures { λ r. ⌜ r ≡ fourOrdinary (units (now (text .entry))) (at .0) ⌝ }
 {
-    let n = text.len() / 2;
-    if n == 0 { 0 } else { n - 1 }
-}
-
-// The next four units are ordinary and stand before the position `end`.
-fn four_ordinary(text: &[u8], p: usize, end: usize) -> bool
-    requires { ⌜ (p < end) × (end ≤ length (now text) / 2) ⌝ }
-    ensures { λ r. ⌜ r ≡ fourBefore end p (units (now (text .entry))) ⌝ }
-{
-    if end - p < 4 {
+    let p = at.0;
+    if text.len() / 2 - p < 4 {
         return false;
     }
     let from = 2 * p;
@@ -141,26 +135,55 @@ fn four_ordinary(text: &[u8], p: usize, end: usize) -> bool
     32 <= number16(&four[6..])
 }
 
-impl Cursor {
-    // The walk at the start of a text.
-    pub fn start() -> Cursor
-        ensures { λ r. ⌜ r ≡ cursor 0 ⌝ }
-    {
-        Cursor { at: Position(0) }
+// The step at a unit u that begins `what`, with `left` units from it on; `last` is the last unit that it takes.
+fn settle(at: Position, u: u32, what: Standing, left: usize, last: u32) -> Step
+    requires { ⌜ (what ≡ begins u) × (at .0 + left < 18446744073709551616) ⌝ }
+    ensures { λ r. ⌜ r ≡ stepOf (at .0) (frontOf u (width what) left last) ⌝ }
+{
+    let n = positions(what);
+    if u == 0 {
+        return Step::Broken(at);
     }
+    if left < n {
+        return Step::Broken(at);
+    }
+    let p = at.0;
+    if last != u {
+        let closing = p + (n - 1);
+        return Step::Broken(Position(closing));
+    }
+    let behind = p + n;
+    if left == n {
+        if u != 13 {
+            return Step::Broken(Position(behind));
+        }
+    } else {
+        if u == 13 {
+            return Step::Broken(at);
+        }
+    }
+    Step::Stands {
+        at,
+        what,
+        next: Cursor {
+            at: Position(behind),
+        },
+    }
+}
 
-    // The walk at the next unit below 32, or at the last unit. Most units are ordinary, and what it passes breaks no rule.
+impl Cursor {
+    // The walk at the next unit below 32, or at the end: most units are ordinary.
     pub fn past_ordinary(self, text: &[u8]) -> Cursor
         ensures { λ r. ⌜ r ≡ cursor (self .at .0 + run (drop (self .at .0) (units (now (text .entry))))) ⌝ }
     {
         let at = self.at;
-        let end = last(text);
+        let n = text.len() / 2;
         let mut p = at.0;
-        while p < end {
-            if four_ordinary(text, p, end) {
+        while p < n {
+            if four_ordinary(text, Position(p)) {
                 p += 4;
             } else {
-                if unit(text, p) < 32 {
+                if unit(text, Position(p)) < 32 {
                     break;
                 }
                 p += 1;
@@ -179,80 +202,10 @@ impl Cursor {
             return Step::End;
         }
         let left = text.len() / 2 - p;
-        let u = unit(text, p);
+        let u = unit(text, at);
         let what = begun(u);
-        let n = positions(what);
-        if u == 0 {
-            return Step::Broken(at);
-        }
-        if left < n {
-            return Step::Broken(at);
-        }
-        let behind = p + n;
-        if 1 < n {
-            let last = p + (n - 1);
-            if unit(text, last) != u {
-                return Step::Broken(Position(last));
-            }
-        }
-        if left == n {
-            if u != 13 {
-                return Step::Broken(Position(behind));
-            }
-        } else {
-            if u == 13 {
-                return Step::Broken(at);
-            }
-        }
-        Step::Stands {
-            at,
-            what,
-            next: Cursor {
-                at: Position(behind),
-            },
-        }
-    }
-}
-
-// 1 of an extended control, else 0.
-fn extended(what: Standing) -> usize
-    ensures { λ r. ⌜ r ≡ isExtended what ⌝ }
-{
-    match what {
-        Standing::Ordinary(_) => 0,
-        Standing::Control(c) => {
-            let class = c.class;
-            match class {
-                Class::Character => 0,
-                Class::Inline => 0,
-                Class::Extended => 1,
-            }
-        }
-    }
-}
-
-// Walks a whole text. One without a unit lacks its 13.
-pub fn judge(text: &[u8]) -> Judged
-    ensures { λ r. ⌜ r ≡ judged (units (now (text .entry))) ⌝ }
-{
-    if text.len() < 2 {
-        return Judged::Broken(Position(0));
-    }
-    let mut cursor = Cursor::start();
-    let mut count = 0;
-    loop {
-        let control = cursor.past_ordinary(text);
-        match control.step(text) {
-            Step::Stands { at: _, what, next } => {
-                count += extended(what);
-                cursor = next;
-            }
-            Step::Broken(p) => {
-                return Judged::Broken(p);
-            }
-            Step::End => {
-                return Judged::Sound(count);
-            }
-        }
+        let closing = p + (positions(what) - 1);
+        let last = unit(text, Position(closing));
+        settle(at, u, what, left, last)
     }
 }

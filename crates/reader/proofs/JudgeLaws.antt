@@ -6,13 +6,14 @@ use mathlib.Core.Path.{_≡_, refl, sym, _∙_}
 use mathlib.Core.Option.{some}
 use mathlib.Core.List.{List, [], _∷_}
 use lib.ListN.{length}
 use Rattle.text.specs.Walk.{Token, tokens, tokensAt, isExtended, extendedIn, extendedCount, faultAt, textFault}
 use Rattle.text.specs.Answers.{place, verdict, judged}
 use Rattle.text.specs.declared.Class.the-variants.{Character, Inline, Extended}
 use Rattle.text.specs.declared.Standing.{Standing}
 use Rattle.text.specs.declared.Standing.the-variants.{Ordinary, Control}
 use Rattle.text.specs.declared.Judged.the-variants as judgement
-use Rattle.text.proofs.WalkLaws.{Onward, Ended}
+use Rattle.text.proofs.WalkLaws.{Ended}
+use Rattle.text.proofs.ControlLaws.{Reached}
 
 -- up to p no fault was met, and k extended controls were
 pub record Walked (us : List ℕ) (p k : ℕ) : Type 0 where
@@ -36,12 +37,14 @@ met : (k : ℕ) (t : Token) (ts : List Token) → k + extendedIn (t ∷ ts) ≡ 
 unfolding extendedIn
 met k t ts = sym (add-assoc k (isExtended (t .what)) (extendedIn ts))
 
-pub walked-on : {us : List ℕ} {p k q : ℕ} {s : Standing} → Walked us p k → Onward us p s q → Walked us q (k + isExtended s)
-walked-on {us} {p} {k} {q} {s} w o =
+pub walked-on : {us : List ℕ} {p k q r : ℕ} {s : Standing} → Walked us p k → Reached us p q s r → Walked us r (k + isExtended s)
+walked-on {us} {p} {k} {q} {r} {s} w h =
     record {
-      whole = w .whole ∙ rw (o .fault, o .tokens, met k (record { at = p; what = s }) (tokensAt us q));
-      within = o .fits;
-      few = omega (arith, at-most-one s, w .few, o .rises);
+      whole =
+          w .whole
+          ∙ rw (h .fault, h .extended, h .onward .fault, h .onward .tokens, met k (record { at = q; what = s }) (tokensAt us r));
+      within = h .onward .fits;
+      few = omega (arith, at-most-one s, w .few, h .from, h .onward .rises);
     }
 
 pub walked-broken : {us : List ℕ} {p k q : ℕ} → Walked us p k → faultAt us p ≡ some q → judgement.Broken (place q) ≡ judged us
