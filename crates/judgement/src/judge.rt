@@ -18,13 +18,14 @@ use paragraph::field_short;
 use paragraph::find;
 use paragraph::find_parts;
 use paragraph::owned_header;
+use reader::next_control;
 use records::Ahead;
 use records::Fault;
 use records::Kind;
 use records::Offset;
 use records::record_at;
-use text::Cursor;
 use text::Judged;
+use text::Position;
 use text::Step;
 ghost use mathlib.Core.Path.{_≡_};
 ghost use mathlib.Core.Option.{none};
@@ -78,39 +79,31 @@ fn field_fault(s: &[u8], from: Offset, n: u32, text: &[u8]) -> Finding
     requires { ⌜ faultAt (units (now text)) 0 ≡ none ⌝ }
     ensures { λ r. ⌜ r ≡ rules.fieldFault 0 (rules.codesIn (tokens (units (now (text .entry))))) (controls (kids n (recordsIn (drop (from .0) (now (s .entry)))))) ⌝ }
 {
-    let mut cursor = Cursor::start();
+    let mut walk = Position(0);
     let mut at = from;
     let mut nth: usize = 0;
     let mut skipped: usize = 0;
     loop {
-        let control = cursor.past_ordinary(text);
-        match control.step(text) {
-            Step::Stands { at: _, what, next } => {
-                cursor = next;
-                match owned_header(s, at, n, skipped, what) {
-                    Owned::Nobody => {}
-                    Owned::Other => {
-                        skipped = skipped + 1;
-                        nth = nth + 1;
-                    }
-                    Owned::Header(p) => {
-                        if field_short(body(s, p)) {
-                            return header_short(nth);
-                        }
-                        at = p.next;
-                        skipped = 0;
-                        nth = nth + 1;
-                    }
-                    Owned::Lacking => {
-                        return Finding::Lawful;
-                    }
+        let Step::Stands { at: _, what, next } = next_control(text, walk) else {
+            return Finding::Lawful;
+        };
+        walk = next.at;
+        match owned_header(s, at, n, skipped, what) {
+            Owned::Nobody => {}
+            Owned::Lacking => {
+                return Finding::Lawful;
+            }
+            Owned::Other => {
+                skipped = skipped + 1;
+                nth = nth + 1;
+            }
+            Owned::Header(r) => {
+                if field_short(body(s, r)) {
+                    return header_short(nth);
                 }
-            }
-            Step::Broken(_) => {
-                return Finding::Lawful;
-            }
-            Step::End => {
-                return Finding::Lawful;
+                at = r.next;
+                skipped = 0;
+                nth = nth + 1;
             }
         }
     }
@@ -144,7 +137,7 @@ fn judge_text(f: Found, text: &[u8]) -> Judged
     ensures { λ r. ⌜ r ≡ textJudged f (now (text .entry)) ⌝ }
 {
     match f {
-        Found::At(_) => text::judge(text),
+        Found::At(_) => reader::judge(text),
         Found::Nothing => Judged::Sound(0),
     }
 }

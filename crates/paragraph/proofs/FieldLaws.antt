@@ -13,11 +13,9 @@ use Rattle.numbers.specs.Little.{little, Bytes}
 use Rattle.records.specs.Records.{Rec}
 use Rattle.records.specs.declared.fault.Fault.the-variants as F
 use Rattle.text.specs.Walk.{Token, tokens, tokensAt, faultAt, run}
-use Rattle.text.specs.Answers.{cursor}
-use Rattle.text.specs.declared.Cursor.{Cursor}
 use Rattle.text.proofs.WalkLaws.{Onward, Ended}
 use Rattle.text.proofs.PartLaws.{singles}
-use Rattle.text.proofs.RunLaws.{run-tokens, run-fault}
+use Rattle.text.proofs.ControlLaws.{Reached}
 use Rattle.text.specs.declared.Class.the-variants.{Extended}
 use Rattle.text.specs.declared.Control.{Control}
 use Rattle.text.specs.declared.Standing.{Standing}
@@ -109,9 +107,6 @@ unfolding codesIn singles
 codes-singles p [] ts = refl
 codes-singles p (u ∷ x) ts = codes-singles (p + 1) x ts
 
-pub codes-run : (us : List ℕ) (p : ℕ) → codesIn (tokensAt us p) ≡ codesIn (tokensAt us (p + run (drop p us)))
-codes-run us p = ap codesIn (run-tokens us p) ∙ codes-singles p (take (run (drop p us)) (drop p us)) (tokensAt us (p + run (drop p us)))
-
 none-owned : (nth : ℕ) (cs : List ℕ) → fieldFault nth cs [] ≡ G.Lawful
 unfolding fieldFault
 none-owned nth [] = refl
@@ -124,17 +119,18 @@ other-code nth c cs [] e = sym (none-owned (nth + 1) cs)
 other-code nth c cs (b ∷ bs) e = rw e
 
 module _ {s us : List ℕ} {from n p k at nth : ℕ} (w : Walking s us from n p k at nth) where
-  walking-run : Walking s us from n (p + run (drop p us)) k at nth
-  walking-run =
+  -- at the next unit below 32
+  pub walking-to : {q r : ℕ} {what : Standing} → Reached us p q what r → Walking s us from n q k at nth
+  walking-to {q} {r} {what} d =
       record {
-        sound = sym (run-fault us p) ∙ w .sound;
-        few = omega (arith, w .few);
+        sound = sym (d .fault) ∙ w .sound;
+        few = omega (arith, w .few, d .from);
         fewer = w .fewer;
-        rest = w .rest ∙ ap (λ (cs : List ℕ). fieldFault nth cs (drop k (headers s n at))) (codes-run us p);
+        rest =
+            w .rest
+            ∙ ap (λ (cs : List ℕ). fieldFault nth cs (drop k (headers s n at)))
+            (ap codesIn (d .tokens) ∙ codes-singles p (take (run (drop p us)) (drop p us)) (tokensAt us q));
       }
-
-  pub walking-to : (c : Cursor) → c ≡ cursor (p + run (drop p us)) → Walking s us from n (c .at .0) k at nth
-  walking-to c e = rw e walking-run
 
   module _ {q : ℕ} {what : Standing} (d : Onward us p what q) where
     codes : (o : Owner) → ownerOf what ≡ o → codesIn (tokensAt us p) ≡ codeBefore o (codesIn (tokensAt us q))

@@ -7,7 +7,7 @@ use Rattle.judgement.proofs.judge.judge_text.Statement.{statement}
 use Rattle.judgement.proofs.judge.judge_text.Tie as tie
 use Rattle.judgement.proofs.judge.judge_text.Reads as reads
 use Rattle.judgement.proofs.judge.judge_text.Lts as lts
-use Rattle.text.proofs.judge.Reads as judge-reads
+use Rattle.reader.proofs.judge.Reads as judge-reads
 
 enum-told : tie.Need-enum-told
 enum-told c = search needs
