@@ -28,7 +28,7 @@ walked-start (u ∷ us) h =
     let z : (n : ℕ) → 0 + n ≡ n = λ n. omega arith in
     record { whole = rw (z (extendedIn (tokensAt (u ∷ us) 0))); within = omega arith; few = omega arith }
 
-pub at-most-one : (s : Standing) → isExtended s ≤ 1
+at-most-one : (s : Standing) → isExtended s ≤ 1
 at-most-one (Ordinary u) = omega arith
 at-most-one (Control c) = elim (c .class) as (λ k. (elim k [ Character ↦ 0 | Inline ↦ 0 | Extended ↦ 1 ]) ≤ 1) [ Character ↦ omega arith | Inline ↦ omega arith | Extended ↦ omega arith ]
 

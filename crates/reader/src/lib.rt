@@ -20,7 +20,7 @@ pub struct Reader<'a> {
     pub at: Position,
 }
 
-// The position of the next unit below 32, or the end.
+// The position of the next unit below 32, or the end (document 01, 'Filling a field').
 fn control_from(text: &[u8], at: Position) -> Position
     ensures { λ r. ⌜ r ≡ place (at .0 + run (drop (at .0) (units (now (text .entry))))) ⌝ }
 {
@@ -29,7 +29,7 @@ fn control_from(text: &[u8], at: Position) -> Position
     control.at
 }
 
-// What stands at a position.
+// What stands at a position (document 01, 'Text units': each step reports).
 fn step_at(text: &[u8], at: Position) -> Step
     ensures { λ r. ⌜ r ≡ stepAt (units (now (text .entry))) (at .0) ⌝ }
 {
@@ -59,15 +59,15 @@ pub fn stands<'a>(r: Reader<'a>) -> Step
     step_at(r.text, r.at)
 }
 
-// What stands at the next unit below 32, and the walk behind it: its contract says nothing of a reader, so whoever calls it needs no
-// walk by hand.
+// What stands at the next unit below 32, for callers that have no walk: the contract says nothing of a reader, so theirs are covered
+// (document 01, 'Filling a field').
 pub fn next_control(text: &[u8], from: Position) -> Step
     ensures { λ r. ⌜ r ≡ controlAt (units (now (text .entry))) (from .0) ⌝ }
 {
     stands(past_ordinary(walk_from(text, from)))
 }
 
-// 1 of an extended control, else 0.
+// 1 of an extended control, which owns a control header (document 01, 'Paragraphs'), else 0.
 fn extended(what: Standing) -> usize
     ensures { λ r. ⌜ r ≡ isExtended what ⌝ }
 {
@@ -84,7 +84,7 @@ fn extended(what: Standing) -> usize
     }
 }
 
-// Walks a whole text. One without a unit, or with ordinary units at its end, lacks its 13.
+// Judges a whole text by document 01, 'Text units'; one without a unit, or with ordinary units at its end, lacks its 13.
 pub fn judge(text: &[u8]) -> Judged
     ensures { λ r. ⌜ r ≡ judged (units (now (text .entry))) ⌝ }
 {

@@ -1,13 +1,13 @@
 -- The step at the next unit below 32. Assumes nothing.
 use Prim.Native.Nat.{ℕ, _+_, _≤_, _<_}
 use native.Mathlib.Omega.{arith}
-use mathlib.Core.Path.{_≡_, refl, sym, ap, _∙_}
+use mathlib.Core.Path.{_≡_, sym, ap, _∙_}
 use mathlib.Core.Logic.{_↔_, inl, inr}
 use mathlib.Core.Option.{Option, none, some}
 use mathlib.Core.List.{List, _++_}
 use lib.ListN.{length, getD, take, drop, length-drop}
-use Rattle.text.specs.Walk.{control, what, tokensAt, AllOrdinary, faultAt, run, extendedIn}
-use Rattle.text.specs.Answers.{place, stepAt, controlAt}
+use Rattle.text.specs.Walk.{control, tokensAt, AllOrdinary, faultAt, run, extendedIn}
+use Rattle.text.specs.Answers.{controlAt}
 use Rattle.text.specs.declared.Position.{Position}
 use Rattle.text.specs.declared.Cursor.{Cursor}
 use Rattle.text.specs.declared.Standing.{Standing}

@@ -4,14 +4,13 @@ use native.Mathlib.Omega.{arith}
 use native.Mathlib.Nat.{add-assoc}
 use mathlib.Core.Path.{_≡_, refl, sym, ap, _∙_}
 use mathlib.Core.Logic.{_⊎_, inl, inr}
-use mathlib.Core.Option.{none}
 use mathlib.Core.List.{List, [], _∷_, _++_, map}
 use lib.ListN.{length, drop, length-append, List·getD-append}
-use Rattle.text.specs.Walk.{what, width, Token, walk, tokens, AllOrdinary, isExtended, extendedIn, extendedCount, textFault, Sound, single}
+use Rattle.text.specs.Walk.{what, width, Token, walk, tokens, AllOrdinary, isExtended, extendedIn, extendedCount, Sound, single}
 use Rattle.text.specs.declared.Standing.the-variants.{Ordinary}
 use Rattle.text.proofs.TableLaws.{what-ordinary}
 use Rattle.text.proofs.WalkLaws.{width-pos}
-use Rattle.text.proofs.SoundLaws.{Begins, unrolled, rolled, drop-behind, sound-exactly}
+use Rattle.text.proofs.SoundLaws.{Begins, unrolled, rolled, drop-behind}
 
 -- ---- the walk in parts
 
@@ -170,8 +169,3 @@ sound-kept x y z w e oy ow h g =
     let l : 0 < length (y ++ z) = omega (arith, length-append y z) in
     sound-front 0 x (y ++ z) (w ++ z) e l g
     (sound-ordinary w z ow (sound-rest 0 y z (left-ordinary y oy) h (sound-rest 0 x (y ++ z) e l g)))
-
-pub fault-kept : (x y z w : List ℕ) → leftOver 0 x ≡ 0 → AllOrdinary y → AllOrdinary w → 0 < length z
-    → textFault (x ++ (y ++ z)) ≡ none → textFault (x ++ (w ++ z)) ≡ none
-fault-kept x y z w e oy ow h g =
-    sound-exactly (x ++ (w ++ z)) .1 (sound-kept x y z w e oy ow h (sound-exactly (x ++ (y ++ z)) .0 g))

@@ -6,11 +6,11 @@ use mathlib.Core.Logic.{inl, inr, _↔_}
 use mathlib.Core.Bool.{Bool, true, false, _&&_}
 use mathlib.Core.Option.{some}
 use mathlib.Core.List.{List, [], _∷_, _++_}
-use lib.Dec.{leb, eqb}
+use lib.Dec.{leb}
 use lib.ListN.{length, getD, take, drop, length-drop, length-append, drop-of-length-le, take-append-drop}
 use lib.Seq.{drop-cons, drop-drop, getD-drop, length-take-le, take-all}
 use borrow.Author.Tests.{lt-ltb, le-ltb, le-leb, leb-true, eq-eqb, ne-eqb}
-use Rattle.text.specs.Walk.{what, width, stands, broken, frontOf, front, walk, tokensAt, AllOrdinary, fault, faultAt, run, fourOrdinary, extendedIn}
+use Rattle.text.specs.Walk.{stands, broken, frontOf, front, walk, tokensAt, AllOrdinary, fault, faultAt, run, fourOrdinary, extendedIn}
 use Rattle.text.specs.declared.Standing.the-variants.{Ordinary}
 use Rattle.text.proofs.Cases.{lt-or}
 use Rattle.text.proofs.TableLaws.{what-ordinary}
@@ -97,9 +97,6 @@ module _ (us : List ℕ) (p : ℕ) where
 
   pub run-within : run (drop p us) ≤ length us - p
   run-within = simp length-drop at (ran (drop p us) .fits)
-
-  pub run-fits : p ≤ length us → p + run (drop p us) ≤ length us
-  run-fits h = omega (arith, h, run-within)
 
   pub run-tokens : tokensAt us p ≡ singles p (take (run (drop p us)) (drop p us)) ++ tokensAt us (p + run (drop p us))
   run-tokens =

@@ -7,7 +7,7 @@ use mathlib.Core.List.{List}
 use lib.Dec.{eqb}
 use lib.ListN.{length, getD, drop-of-length-le}
 use borrow.Author.Tests.{lt-ltb, le-ltb, eq-eqb, ne-eqb}
-use Rattle.text.specs.Walk.{what, width, Front, stands, broken, frontOf, front}
+use Rattle.text.specs.Walk.{what, width, stands, broken, frontOf, front}
 use Rattle.text.specs.Answers.{place, cursor, stepOf, stepAt}
 use Rattle.text.specs.declared.Standing.{Standing}
 use Rattle.text.specs.declared.Step.the-variants.{Stands, Broken, End}
@@ -21,6 +21,10 @@ pub at-unit : (us : List ℕ) (p : ℕ) → p < length us
     → stepAt us p ≡ stepOf p (frontOf (getD us p 0) (width (what (getD us p 0))) (length us - p) (getD us (p + (width (what (getD us p 0)) - 1)) 0))
 unfolding stepAt
 at-unit us p h = ap (stepOf p) (front-at us p h)
+
+-- what takes one position closes itself
+pub closes-itself : (us : List ℕ) (p n : ℕ) → n ≡ 1 → getD us p 0 ≡ getD us (p + (n - 1)) 0
+closes-itself us p n e = let z : p ≡ p + (n - 1) = omega arith in ap (λ (i : ℕ). getD us i 0) z
 
 -- a unit u at position p that takes n positions, with `left` units from it on, the nth of which is `last`
 module _ (p u n left last : ℕ) where

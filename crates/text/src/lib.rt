@@ -1,7 +1,7 @@
 // A paragraph's text: what stands at each position, and whether the text keeps its rules.
 use numbers::number16;
 ghost use mathlib.Core.Path.{_≡_};
-ghost use Prim.Native.Nat.{_+_, _/_, _≤_, _<_};
+ghost use Prim.Native.Nat.{_+_, _-_, _/_, _≤_, _<_};
 ghost use lib.ListN.{length, getD, drop};
 ghost use Rattle.text.specs.Units.{units};
 ghost use Rattle.text.specs.Walk.{classOf, what as begins, width, frontOf, run, fourOrdinary};
@@ -111,7 +111,7 @@ fn positions(what: Standing) -> usize
     }
 }
 
-// The next four units are there and ordinary.
+// The next four units are there and ordinary (document 01, 'Text units': units from 32 up).
 fn four_ordinary(text: &[u8], at: Position) -> bool
     requires { ⌜ at .0 < length (now text) / 2 ⌝ }
     ensures { λ r. ⌜ r ≡ fourOrdinary (units (now (text .entry))) (at .0) ⌝ }
@@ -135,7 +135,20 @@ fn four_ordinary(text: &[u8], at: Position) -> bool
     32 <= number16(&four[6..])
 }
 
-// The step at a unit u that begins `what`, with `left` units from it on; `last` is the last unit that it takes.
+// The last of the n units that belong to the unit u, where a control has its own code again (document 01, 'Text units').
+fn closing(text: &[u8], at: Position, u: u32, n: usize) -> u32
+    requires { ⌜ (u ≡ getD (units (now text)) (at .0) 0) × ((1 ≤ n) × (at .0 + n < 18446744073709551616)) ⌝ }
+    ensures { λ r. ⌜ r ≡ getD (units (now (text .entry))) (at .0 + (n - 1)) 0 ⌝ }
+{
+    if n == 1 {
+        return u;
+    }
+    let last = at.0 + (n - 1);
+    unit(text, Position(last))
+}
+
+// The step at a unit u that begins `what`, with `left` units from it on, the last of them that belong to it being `last`, by the rules of
+// document 01, 'Text units'.
 fn settle(at: Position, u: u32, what: Standing, left: usize, last: u32) -> Step
     requires { ⌜ (what ≡ begins u) × (at .0 + left < 18446744073709551616) ⌝ }
     ensures { λ r. ⌜ r ≡ stepOf (at .0) (frontOf u (width what) left last) ⌝ }
@@ -172,7 +185,7 @@ fn settle(at: Position, u: u32, what: Standing, left: usize, last: u32) -> Step
 }
 
 impl Cursor {
-    // The walk at the next unit below 32, or at the end: most units are ordinary.
+    // The walk at the next unit below 32, or at the end (document 01, 'Filling a field'): most units are ordinary.
     pub fn past_ordinary(self, text: &[u8]) -> Cursor
         ensures { λ r. ⌜ r ≡ cursor (self .at .0 + run (drop (self .at .0) (units (now (text .entry))))) ⌝ }
     {
@@ -192,7 +205,7 @@ impl Cursor {
         Cursor { at: Position(p) }
     }
 
-    // What stands at the cursor, and the cursor behind it.
+    // What stands at the cursor, and the cursor behind it (document 01, 'Text units': each step reports).
     pub fn step(self, text: &[u8]) -> Step
         ensures { λ r. ⌜ r ≡ stepAt (units (now (text .entry))) (self .at .0) ⌝ }
     {
@@ -204,8 +217,7 @@ impl Cursor {
         let left = text.len() / 2 - p;
         let u = unit(text, at);
         let what = begun(u);
-        let closing = p + (positions(what) - 1);
-        let last = unit(text, Position(closing));
+        let last = closing(text, at, u, positions(what));
         settle(at, u, what, left, last)
     }
 }

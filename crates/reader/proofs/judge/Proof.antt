@@ -9,7 +9,7 @@ use Rattle.text.specs.declared.Judged.the-variants as judgement
 use Rattle.text.proofs.UnitLaws.{length-units}
 use Rattle.text.proofs.WalkLaws.{past-ended}
 use Rattle.text.proofs.ControlLaws.{Reached, control-stands, control-broken, control-lacking}
-use Rattle.reader.proofs.JudgeLaws.{Walked, walked-start, walked-on, walked-broken, walked-end, judged-none, at-most-one}
+use Rattle.reader.proofs.JudgeLaws.{Walked, walked-start, walked-on, walked-broken, walked-end, judged-none}
 use Rattle.reader.proofs.judge.Statement.{statement}
 use Rattle.reader.proofs.judge.Tie as tie
 use Rattle.reader.proofs.judge.Reads as reads

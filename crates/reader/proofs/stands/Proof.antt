@@ -36,7 +36,6 @@ use denote.Exit.{yes}
 use denote.Triple.Clauses.{ensured, lasts}
 use Rattle.text.specs.declared.Step.{Step}
 use Rattle.text.proofs.Position as P
-use Rattle.text.proofs.Position.Laws as P′
 use Rattle.text.proofs.Step as S
 use Rattle.text.proofs.Step.Laws as S′
 use Rattle.reader.specs.Reading.{standing}
