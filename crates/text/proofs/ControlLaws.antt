@@ -4,7 +4,7 @@ use native.Mathlib.Omega.{arith}
 use mathlib.Core.Path.{_≡_, sym, ap, _∙_}
 use mathlib.Core.Logic.{_↔_, inl, inr}
 use mathlib.Core.Option.{Option, none, some}
-use mathlib.Core.List.{List, _++_}
+use mathlib.Core.List.{List, [], _∷_, _++_}
 use lib.ListN.{length, getD, take, drop, length-drop}
 use Rattle.text.specs.Walk.{control, tokensAt, AllOrdinary, faultAt, run, extendedIn}
 use Rattle.text.specs.Answers.{controlAt}
@@ -12,7 +12,11 @@ use Rattle.text.specs.declared.Position.{Position}
 use Rattle.text.specs.declared.Cursor.{Cursor}
 use Rattle.text.specs.declared.Standing.{Standing}
 use Rattle.text.specs.declared.Standing.the-variants.{Control}
+use Rattle.text.specs.declared.Step.{Step}
 use Rattle.text.specs.declared.Step.the-variants.{Stands, Broken, End}
+use denote.Enum.Declared.{tagOf}
+use types.Run.{OneOf}
+use Rattle.text.proofs.Step as step
 use Rattle.text.proofs.Cases.{lt-or}
 use Rattle.text.proofs.TableLaws.{what-control}
 use Rattle.text.proofs.WalkLaws.{Onward, step-stands, step-broken, step-past, Ended, past-ended}
@@ -89,3 +93,13 @@ module _ (us : List ℕ) (p : ℕ) where
 
   pub control-ended : controlAt us p ≡ End → faultAt us p ≡ none → Ended us p
   control-ended e n = past-ended us p (control-over e n)
+
+-- a step that met no control, whichever way: as `let .. else` leaves it
+abbrev pub NoControl : Step → Type 0
+NoControl x = OneOf (1 ∷ 2 ∷ []) (tagOf step.the-type x)
+
+pub none-stands : (us : List ℕ) (p : ℕ) (x : Step) → x ≡ controlAt us p → NoControl x → faultAt us p ≡ none → Ended us p
+none-stands us p (Stands a s c) e (inl z) n = absurd (let y : _≡_ {A = ℕ} 0 1 = z in omega arith)
+none-stands us p (Stands a s c) e (inr z) n = absurd (let y : _≡_ {A = ℕ} 0 2 = z in omega arith)
+none-stands us p (Broken q) e w n = absurd (control-sound us p q n (sym e))
+none-stands us p End e w n = control-ended us p (sym e) n

@@ -1,3 +1,18 @@
+-- 15 is found as `fieldFault` has it. Assumes nothing.
+use borrow.Author.Needs.{needs}
+use native.Mathlib.Omega.{arith}
+use Prim.Native.Nat.{ℕ, _-_}
+use mathlib.Core.Path.{_≡_, sym, ap, _∙_}
+use lib.ListN.{length}
+use Rattle.numbers.proofs.LittleLaws.{slice-bytes}
+use Rattle.text.specs.Units.{units}
+use Rattle.text.proofs.UnitLaws.{length-units}
+use Rattle.text.proofs.ControlLaws.{Reached, control-stands, none-stands}
+use Rattle.paragraph.specs.Rules.{ownerOf, fieldShort}
+use Rattle.paragraph.specs.Places.{bodyOf}
+use Rattle.paragraph.specs.declared.fields.Owned.{Owned}
+use Rattle.paragraph.specs.declared.fields.Owned.the-variants as K
+use Rattle.paragraph.proofs.FieldLaws.{Outcome, outcome, Walking, walking-start, walking-to, walking-nobody, walking-other, walking-header, walking-short, walking-lacking, walking-end}
 use Rattle.judgement.proofs.judge.field_fault.Statement.{statement}
 use Rattle.judgement.proofs.judge.field_fault.Tie as tie
 use Rattle.judgement.proofs.judge.field_fault.Reads as reads
@@ -9,101 +24,110 @@ use Rattle.paragraph.proofs.owned_header.Reads as owned-header-reads
 use Rattle.reader.proofs.next_control.Reads as next-control-reads
 
 abbrev Inv-loop : tie.InvT-loop
-Inv-loop s n text walk₀ at₀ nth₀ skipped₀ walk at nth skipped = ?
+Inv-loop s n text walk₀ at₀ nth₀ skipped₀ walk at nth skipped = Walking s (units text) (at₀ .0) n (walk .0) skipped (at .0) nth
 
 abbrev μ-loop : tie.MeasureT-loop
-μ-loop s n text walk₀ at₀ nth₀ skipped₀ walk at nth skipped = ?
+μ-loop s n text walk₀ at₀ nth₀ skipped₀ walk at nth skipped = length (units text) - walk .0
 
--- src/judge.rt:86:5
 loop-holds : tie.Need-loop-holds Inv-loop μ-loop
-loop-holds c = ?
+loop-holds c = walking-start _ _ _ _ (c .before .before .pre)
 
--- src/judge.rt:87:50
 next-control-requires : tie.Need-next-control-requires Inv-loop μ-loop
-next-control-requires c κs = ?
+next-control-requires c κs = search needs
 
--- src/judge.rt:87:35
 enum-known-what : tie.Need-enum-known-what Inv-loop μ-loop
-enum-known-what c = ?
+enum-known-what c = search needs
 
--- src/judge.rt:88:13
+-- at a control: the function's entry, and where the walk has come to
+abbrev start : tie.After-what Inv-loop μ-loop → tie.Start Inv-loop μ-loop
+start c = c .before .before .before .before .before .before
+
+abbrev head : tie.After-what Inv-loop μ-loop → tie.At-loop Inv-loop μ-loop
+head c = c .before .before .before
+
+reached : (c : tie.After-what Inv-loop μ-loop)
+    → Reached (units (start c .args .text .now)) (head c .loop .walk .0) (c .what .given .0 .0 .0) (c .what .given .0 .1 .0) (c .what .given .0 .1 .1 .0 .at .0)
+reached c = control-stands _ _ _ _ _ (sym (c .before .before .next-control .ensures) ∙ c .what .given .1)
+
+walking : (c : tie.After-what Inv-loop μ-loop)
+    → Walking (start c .args .s .now) (units (start c .args .text .now)) (start c .args .from .0) (start c .args .n) (c .what .given .0 .0 .0) (head c .loop .skipped) (head c .loop .at .0) (head c .loop .nth)
+walking c = walking-to (head c .loop .inv) (reached c)
+
+-- where a control header was asked for
+abbrev turn : tie.After-owned-header Inv-loop μ-loop → tie.After-what Inv-loop μ-loop
+turn c = c .before .before .before
+
+owns : (c : tie.After-owned-header Inv-loop μ-loop) (y : Owned) → c .owned-header .result ≡ y
+    → Outcome (start (turn c) .args .s .now) (start (turn c) .args .n) (head (turn c) .loop .skipped) (head (turn c) .loop .at .0) (ownerOf (turn c .what .given .0 .1 .0)) y
+owns c y e =
+    outcome (start (turn c) .args .s .now) (slice-bytes (start (turn c) .args .s .now) (head (turn c) .before .before .shared-slice-known .given)) _ _ _ _ _ y (c .owned-header .ensures) e
+
+-- where there is one, and it was looked at
+abbrev header : tie.After-field-short Inv-loop μ-loop → tie.After-owned-header Inv-loop μ-loop
+header c = c .before .before .before .before .before
+
+short : (c : tie.After-field-short Inv-loop μ-loop) → fieldShort (bodyOf (start (turn (header c)) .args .s .now) (c .before .before .before .r .given .0 .0)) ≡ c .field-short .result
+short c = sym (c .field-short .ensures ∙ ap fieldShort (c .before .body .ensures))
+
 returns : tie.Need-returns Inv-loop μ-loop
-returns c = ?
+returns c = let l = c .before .before in walking-end (l .loop .inv) (none-stands _ _ _ (c .before .next-control .ensures) (c .match .keys2) (l .loop .inv .sound))
 
--- src/judge.rt:91:15
 owned-header-requires : tie.Need-owned-header-requires Inv-loop μ-loop
-owned-header-requires c κs = ?
+owned-header-requires c κs = search needs
 
 enum-told : tie.Need-enum-told Inv-loop μ-loop
-enum-told c = ?
+enum-told c = search needs
 
--- src/judge.rt:86:5
 loop-less : tie.Need-loop-less Inv-loop μ-loop
-loop-less c = ?
+loop-less c = let d = turn (c .before .before) in omega (arith, reached d .from, reached d .onward .rises, reached d .onward .fits)
 
--- src/judge.rt:86:5
 loop-again : tie.Need-loop-again Inv-loop μ-loop
-loop-again c = ?
+loop-again c = let d = turn (c .before .before) in walking-nobody (walking d) (reached d .onward) (owns (c .before .before) K.Nobody (c .enum-told .given .1))
 
--- src/judge.rt:94:17
 enum-told-2 : tie.Need-enum-told-2 Inv-loop μ-loop
-enum-told-2 c = ?
+enum-told-2 c = search needs
 
--- src/judge.rt:94:17
 returns-2 : tie.Need-returns-2 Inv-loop μ-loop
-returns-2 c = ?
+returns-2 c = let d = turn (c .before .before) in walking-lacking (walking d) (reached d .onward) (owns (c .before .before) K.Lacking (c .enum-told2 .given .1))
 
--- src/judge.rt:97:27
 enum-told-3 : tie.Need-enum-told-3 Inv-loop μ-loop
-enum-told-3 c = ?
+enum-told-3 c = search needs
 
--- src/judge.rt:97:27
 add-skipped : tie.Need-add-skipped Inv-loop μ-loop
-add-skipped c = ?
+add-skipped c = let d = turn (c .before .before) in omega (arith, walking d .few, walking d .fewer, reached d .onward .rises, reached d .onward .fits, length-units (start d .args .text .now))
 
--- src/judge.rt:98:23
 add-nth : tie.Need-add-nth Inv-loop μ-loop
-add-nth c = ?
+add-nth c = let d = turn (c .before .before) in omega (arith, walking d .few, walking d .fewer, reached d .onward .rises, reached d .onward .fits, length-units (start d .args .text .now))
 
--- src/judge.rt:86:5
 loop-less-2 : tie.Need-loop-less-2 Inv-loop μ-loop
-loop-less-2 c = ?
+loop-less-2 c = let d = turn (c .before .before) in omega (arith, reached d .from, reached d .onward .rises, reached d .onward .fits)
 
--- src/judge.rt:86:5
 loop-again-2 : tie.Need-loop-again-2 Inv-loop μ-loop
-loop-again-2 c = ?
+loop-again-2 c = let d = turn (c .before .before) in walking-other (walking d) (reached d .onward) (owns (c .before .before) K.Other (c .enum-told3 .given .1))
 
--- src/judge.rt:100:27
 enum-known-r : tie.Need-enum-known-r Inv-loop μ-loop
-enum-known-r c = ?
+enum-known-r c = search needs
 
--- src/judge.rt:101:32
 body-requires : tie.Need-body-requires Inv-loop μ-loop
-body-requires c κs = ?
+body-requires c κs = search needs
 
--- src/judge.rt:101:20
 field-short-requires : tie.Need-field-short-requires Inv-loop μ-loop
-field-short-requires c κs = ?
+field-short-requires c κs = search needs
 
--- src/judge.rt:102:21
 header-short-requires : tie.Need-header-short-requires Inv-loop μ-loop
-header-short-requires c κs = ?
+header-short-requires c κs = search needs
 
--- src/judge.rt:102:21
 returns-3 : tie.Need-returns-3 Inv-loop μ-loop
-returns-3 c = ?
+returns-3 c = let d = turn (header (c .before .before)) in c .header-short .ensures ∙ walking-short (walking d) (reached d .onward) _ (owns (header (c .before .before)) (K.Header _) (c .before .before .before .before .before .r .given .1)) (short (c .before .before) ∙ c .before .if1 .taken)
 
--- src/judge.rt:106:23
 add-nth-2 : tie.Need-add-nth-2 Inv-loop μ-loop
-add-nth-2 c = ?
+add-nth-2 c = let d = turn (header (c .before .before)) in omega (arith, walking d .few, walking d .fewer, reached d .onward .rises, reached d .onward .fits, length-units (start d .args .text .now), start d .good .1 .1 .1 .0 .0)
 
--- src/judge.rt:86:5
 loop-less-3 : tie.Need-loop-less-3 Inv-loop μ-loop
-loop-less-3 c = ?
+loop-less-3 c = let d = turn (header (c .before .before)) in omega (arith, reached d .from, reached d .onward .rises, reached d .onward .fits)
 
--- src/judge.rt:86:5
 loop-again-3 : tie.Need-loop-again-3 Inv-loop μ-loop
-loop-again-3 c = ?
+loop-again-3 c = let d = turn (header (c .before .before)) in walking-header (walking d) (reached d .onward) _ (owns (header (c .before .before)) (K.Header _) (c .before .before .before .before .before .r .given .1)) (short (c .before .before) ∙ c .before .if1 .left)
 
 pub field-fault-spec : {M : Type 1} → statement M
 field-fault-spec =
