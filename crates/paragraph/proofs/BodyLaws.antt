@@ -134,7 +134,7 @@ module _ (s : List ℕ) (bs : Bytes s) (n tag : ℕ) where
   child-found at = child-if at (foundIn n tag 0 at (recordsIn (drop at s))) (met-by (recordsIn (drop at s)) at refl)
 
   inside-if : (at : ℕ) (f : Found) → MetIf s n tag at f → Inside s f
-  inside-if at (P.At p) k = k .inside
+  inside-if at (P.At p) k = omega (arith, k .body-end, k .inside)
   inside-if at P.Nothing k = tt
 
   pub found-inside : (at : ℕ) → Inside s (foundIn n tag 0 at (recordsIn (drop at s)))

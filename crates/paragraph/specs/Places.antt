@@ -62,7 +62,7 @@ bodyFound s P.Nothing = none
 
 -- it is within the stream
 abbrev pub Inside : List ℕ → Found → Type 0
-Inside s (P.At p) = p .next .0 ≤ length s
+Inside s (P.At p) = p .body .0 + p .length ≤ length s
 Inside s P.Nothing = Unit {0}
 
 -- the four records that a paragraph has at most one of, and how many control headers it has
