@@ -11,7 +11,8 @@ test:
 
 # target/staticlib/libhost.a, the library to link on x86-64.
 library:
-	@rt staticlib host
+	@tools/proving 'proving host' target/library.log rt staticlib host
+	@tail -n 1 target/library.log
 
 # target/spool, the host in C, for this machine.
 spool:
