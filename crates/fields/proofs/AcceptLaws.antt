@@ -16,7 +16,7 @@ use Rattle.acceptance.proofs.SectionReader.{accepted-section}
 use Rattle.filling.specs.Filling.{textAnswer}
 use Rattle.filling.specs.declared.TextAnswer.{TextAnswer}
 use Rattle.filling.specs.declared.TextAnswer.the-variants as T
-use Rattle.fields.specs.Accepted.{Keep, Sound}
+use Rattle.search.specs.Accepted.{Keep, Sound}
 use Rattle.fields.specs.Calls.{textAfter, fieldTextAnswer}
 
 pub record Sectioned (s : List ℕ) : Type 0 where

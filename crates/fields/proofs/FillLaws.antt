@@ -27,10 +27,11 @@ use Rattle.filling.specs.Filling.{valueWrong, unmarked, fillable, sheet, fits, 
 use Rattle.filling.proofs.AnswerLaws.{fits-not, fits-room, fits-all}
 use Rattle.writing.specs.Putting.{Puts, largest}
 use Rattle.orders.specs.Calls.{afterSection, fillOf, sheetOf}
-use Rattle.fields.specs.Searching.{told, searchedOf}
+use Rattle.search.specs.Searching.{told}
+use Rattle.fields.specs.Outcomes.{searchedOf}
 use Rattle.fields.specs.Calls.{leaves, hitSheet}
-use Rattle.fields.specs.Accepted.{Sound}
-use Rattle.fields.specs.declared.search.Hit.{Hit}
+use Rattle.search.specs.Accepted.{Sound}
+use Rattle.search.specs.declared.seek.Hit.{Hit}
 use Rattle.fields.specs.declared.outcome.Searched.{Searched}
 use Rattle.fields.specs.declared.outcome.Searched.the-variants as So
 use Rattle.fields.proofs.AcceptLaws.{sectioned}

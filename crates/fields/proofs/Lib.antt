@@ -1,10 +1,3 @@
-pub mod IdLaws
-pub mod ClosingLaws
-pub mod PassLaws
-pub mod FitLaws
-pub mod BareLaws
-pub mod LookLaws
-pub mod SearchLaws
 pub mod LocateLaws
 pub mod AcceptLaws
 pub mod FillLaws

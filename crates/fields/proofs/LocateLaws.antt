@@ -1,5 +1,5 @@
 -- Where a hit stands: its paragraph in the stream, and what an edit of that paragraph makes of the stream. Assumes nothing.
-use Prim.Native.Nat.{ℕ, zero, suc, _+_, _-_, _*_, _≤_, _<_}
+use Prim.Native.Nat.{ℕ, zero, suc, _+_, _-_, _*_, _≤_, _<_, min}
 use native.Mathlib.Omega.{arith}
 use native.Mathlib.Nat.{add-zero, add-assoc}
 use mathlib.Core.Path.{_≡_, refl, sym, ap, ap₂, _∙_, subst}
@@ -22,7 +22,8 @@ use Rattle.filling.specs.Fields.{Field, fields, idOf, withId}
 use Rattle.filling.specs.Search.{Hit, hitOf, hits, Outcome, one, refused, outcome, search}
 use Rattle.records.specs.declared.fault.Offset.{Offset}
 use Rattle.records.specs.declared.fault.Fault.the-variants as F
-use Rattle.fields.specs.Searching.{told, metNext, metWith, spanOf, searchedOf}
+use Rattle.search.specs.Searching.{told, metNext, metWith, spanOf}
+use Rattle.fields.specs.Outcomes.{searchedOf}
 use Rattle.fields.specs.declared.outcome.Searched.{Searched}
 use Rattle.fields.specs.declared.outcome.Searched.the-variants as So
 use Rattle.records.specs.declared.fault.Fault.{Fault}
@@ -32,15 +33,15 @@ use Rattle.filling.specs.declared.TextAnswer.the-variants as T
 use Rattle.text.specs.Units.{units}
 use Rattle.text.proofs.UnitLaws.{length-units}
 use Rattle.paragraph.specs.Rules.{bytesIn}
-use Rattle.paragraph.specs.Places.{foundIn}
-use Rattle.fields.specs.declared.search.Hit as told-hit
-use Rattle.fields.specs.declared.search.Met.the-variants as M
-use Rattle.fields.proofs.SearchLaws.{met-twice, TextAt, text-at}
+use Rattle.paragraph.specs.Places.{foundIn, unitPlace}
+use Rattle.search.specs.declared.seek.Hit as told-hit
+use Rattle.search.specs.declared.seek.Met.the-variants as M
+use Rattle.search.proofs.SearchLaws.{met-twice, TextAt, text-at}
 use Rattle.filling.specs.Editing.{Edit, editHere, editAt}
 use Rattle.filling.proofs.EditLaws.{at-here, at-next, at-past}
 use Rattle.filling.proofs.FieldLaws.{Among, a-to-b}
 use Rattle.filling.proofs.SearchLaws.{hits-here, hits-past}
-use Rattle.fields.specs.Accepted.{Keep, Sound}
+use Rattle.search.specs.Accepted.{Keep, Sound}
 
 abbrev pub Met-in : Hit → List Hit → Type 0
 Met-in h [] = ⊥
@@ -264,14 +265,14 @@ module _ (s : List ℕ) (bs : Bytes s) (a : Sound s) (id : ℕ) (h : Hit) (e : s
       let us = units (bytesIn (child 67 (kids n (l .rs)))) in
       let ab = a-to-b us (h .field) (l .among) (o .1) in
       let f = spanOf (foundIn n 67 0 go (l .rs)) in
-      let text : h .text ≡ f .from = ap (λ (z : Hit). z .text) (l .hit-is) ∙ sym (t .place-is) in
+      let text : h .text ≡ f .from .0 = ap (λ (z : Hit). z .text) (l .hit-is) ∙ sym (t .place-is) in
       record {
         here = l;
         plain = o .1;
         a-b = ab .0;
         inside =
             omega
-            (arith, ab .1, text, ap length (t .units-are), length-units (take (f .length) (drop (f .from) s)), length-take (f .length) (drop (f .from) s), t .inside);
+            (arith, ab .1, text, ap length (t .units-are), length-units (take (f .length) (drop (f .from .0) s)), length-take (f .length) (drop (f .from .0) s), t .inside);
       }
 
 -- by what was searched
@@ -294,12 +295,6 @@ answer-one : (id : ℕ) (rs : List Rec) (h : Hit) → search id rs ≡ one h
 unfolding textAnswer
 answer-one id rs h e = rw (e, textAnswer)
 
-pub text-one : (id : ℕ) (rs : List Rec) (x : told-hit.Hit) → searchedOf (search id rs) ≡ So.One x
-    → T.At (record { 0 = x .text .0 + 2 * x .field .a .0 }) (2 * (x .field .b .0 - x .field .a .0)) ≡ textAnswer id rs
-text-one id rs x e =
-    let k = searched-hit (search id rs) x e in
-    ap (λ (z : told-hit.Hit). T.At (record { 0 = z .text .0 + 2 * z .field .a .0 }) (2 * (z .field .b .0 - z .field .a .0))) (sym (k .2)) ∙ sym (answer-one id rs (k .0) (k .1))
-
 -- the numbers that the code computes
 pub record Bounds (s : List ℕ) (x : told-hit.Hit) : Type 0 where
   pub a-b : x .field .a .0 ≤ x .field .b .0
@@ -310,3 +305,12 @@ bounds s bs a id x e =
     let k = searched-hit (search id (recordsIn s)) x e in
     let o = only s bs a id (k .0) (k .1) in
     subst (Bounds s) (k .2) (record { a-b = o .a-b; inside = o .inside })
+
+-- the place of its text, as the code finds it
+pub text-one : (s : List ℕ) (id : ℕ) (rs : List Rec) (x : told-hit.Hit) → Bounds s x → length s < 18446744073709551616 → searchedOf (search id rs) ≡ So.One x
+    → T.At (unitPlace (x .text) (x .field .a)) (2 * (x .field .b .0 - x .field .a .0)) ≡ textAnswer id rs
+text-one s id rs x d h e =
+    let k = searched-hit (search id rs) x e in
+    let z : min 18446744073709551615 (x .text .0 + 2 * x .field .a .0) ≡ x .text .0 + 2 * x .field .a .0 = omega (arith, d .a-b, d .inside) in
+    ap (λ (i : ℕ). T.At (record { 0 = i }) (2 * (x .field .b .0 - x .field .a .0))) z
+    ∙ ap (λ (z : told-hit.Hit). T.At (record { 0 = z .text .0 + 2 * z .field .a .0 }) (2 * (z .field .b .0 - z .field .a .0))) (sym (k .2)) ∙ sym (answer-one id rs (k .0) (k .1))

@@ -1,35 +1,45 @@
 -- Number 20, unit by unit. Assumes nothing.
-use Prim.Native.Nat.{ℕ, suc, _+_, _/_, _%_, _≤_, _<_}
+use Prim.Native.Nat.{ℕ, _/_, _%_, _≤_, _<_}
 use native.Mathlib.Omega.{arith}
-use native.Mathlib.Numerals.{add-one}
-use mathlib.Core.Path.{_≡_, refl, sym, ap, _∙_}
+use mathlib.Core.Path.{_≡_, refl, sym, _∙_}
 use mathlib.Core.Bool.{Bool, true, false, _||_}
 use mathlib.Core.List.{List, [], _∷_}
 use lib.Dec.{ltb}
-use lib.ListN.{length, getD, drop, drop-of-length-le}
-use lib.Seq.{drop-cons}
-use borrow.Author.Tests.{lt-ltb, le-ltb, eq-eqb, ne-eqb}
+use lib.ListN.{length}
+use borrow.Author.Tests.{lt-ltb, le-ltb, ltb-false, eq-eqb, ne-eqb}
 use Rattle.text.specs.Units.{units}
+use Rattle.text.specs.Walk.{AllOrdinary}
+use Rattle.text.specs.Answers.{controlAt}
+use Rattle.text.specs.declared.Step.{Step}
+use Rattle.text.specs.declared.Step.the-variants.{End}
+use Rattle.text.proofs.ControlLaws.{control-end}
 use Rattle.filling.specs.Filling.{anyBelow, valueWrong}
 
--- what is left to be seen from p on
-pub record Low-from (us : List ℕ) (p : ℕ) : Type 0 where
-  pub rest : anyBelow 32 us ≡ anyBelow 32 (drop p us)
+-- all units are from 32 up where none is below
+ordinary-none : (us : List ℕ) → AllOrdinary us → anyBelow 32 us ≡ false
+unfolding anyBelow
+ordinary-none [] o = refl
+ordinary-none (u ∷ us) o = rw (le-ltb u 32 (o .0)) (ordinary-none us (o .1))
 
-module _ {us : List ℕ} {p : ℕ} (k : Low-from us p) where
-  front : p < length us → anyBelow 32 us ≡ (ltb (getD us p 0) 32 || anyBelow 32 (drop (suc p) us))
-  unfolding anyBelow
-  front h = k .rest ∙ ap (anyBelow 32) (drop-cons us p 0 h)
+none-ordinary : (us : List ℕ) → anyBelow 32 us ≡ false → AllOrdinary us
+unfolding anyBelow
+none-ordinary [] e = tt
+none-ordinary (u ∷ us) e = go (ltb u 32) refl e
+  where
+    go : (b : Bool) → ltb u 32 ≡ b → (b || anyBelow 32 us) ≡ false → (32 ≤ u) × AllOrdinary us
+    go true h q = absurd (let z : _≡_ {A = ℕ} 0 1 = cc in omega arith)
+    go false h q = (ltb-false u 32 h, none-ordinary us q)
 
-  pub low-here : {u : ℕ} → p < length us → u ≡ getD us p 0 → u < 32 → true ≡ anyBelow 32 us
-  low-here h e l = sym (front h ∙ rw (← e, lt-ltb _ 32 l))
+-- what the walk of a value meets
+pub value-none : (us : List ℕ) → controlAt us 0 ≡ End → false ≡ anyBelow 32 us
+value-none us e = sym (ordinary-none us (control-end us 0 .0 e))
 
-  pub low-on : {u : ℕ} → p < length us → u ≡ getD us p 0 → 32 ≤ u → Low-from us (p + 1)
-  low-on h e l = record { rest = front h ∙ rw (← e, le-ltb _ 32 l) (ap (λ (n : ℕ). anyBelow 32 (drop n us)) (sym (add-one p))) }
-
-  pub low-none : length us ≤ p → false ≡ anyBelow 32 us
-  unfolding anyBelow
-  low-none h = sym (k .rest ∙ rw (drop-of-length-le us h))
+pub value-some : (us : List ℕ) (x : Step) → x ≡ controlAt us 0 → (x ≡ End → ⊥) → true ≡ anyBelow 32 us
+value-some us x e n = go (anyBelow 32 us) refl
+  where
+    go : (b : Bool) → anyBelow 32 us ≡ b → true ≡ b
+    go true q = refl
+    go false q = absurd (n (e ∙ control-end us 0 .1 (none-ordinary us q)))
 
 module _ (v : List ℕ) where
   pub wrong-odd : length v % 2 ≡ 1 → true ≡ valueWrong v

@@ -9,7 +9,7 @@ use Rattle.filling.specs.declared.TextAnswer.{TextAnswer}
 use Rattle.filling.specs.declared.TextAnswer.the-variants as T
 use Rattle.filling.specs.Filling.{textAnswer}
 use Rattle.writing.specs.Sheet.{fieldOf, sheetOf}
-use Rattle.fields.specs.declared.search.Hit.{Hit}
+use Rattle.search.specs.declared.seek.Hit.{Hit}
 
 -- check's refusal, and else the answer t
 abbrev pub textAfter : Answer → TextAnswer → TextAnswer

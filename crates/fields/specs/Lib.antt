@@ -1,4 +1,3 @@
-pub mod Searching
-pub mod Accepted
+pub mod Outcomes
 pub mod Calls
 pub mod Promise

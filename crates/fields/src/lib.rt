@@ -1,6 +1,5 @@
-// The fields of a section: the search for one by its id, and its text (document 01, 'Filling a field').
+// The calls over a field: its text, and its fill (document 01, 'Filling a field').
 mod outcome;
-mod search;
 mod sheets;
 mod value;
 

@@ -1,19 +1,20 @@
 // What a search comes to, and the text of a field.
-use crate::search::Hit;
-use crate::search::Met;
-use crate::search::search;
 use filling::TextAnswer;
+use paragraph::unit_place;
 use records::Answer;
 use records::Fault;
 use records::Offset;
 use records::Refusal;
+use search::Hit;
+use search::Met;
+use search::search;
 use section::check;
 ghost use mathlib.Core.Path.{_≡_};
 ghost use Rattle.paragraph.specs.Stream.{recordsIn};
 ghost use Rattle.filling.specs.Search as Search;
 ghost use Rattle.filling.specs.Filling.{textAnswer};
-ghost use Rattle.fields.specs.Accepted.{Sound};
-ghost use Rattle.fields.specs.Searching.{searchedOf};
+ghost use Rattle.search.specs.Accepted.{Sound};
+ghost use Rattle.fields.specs.Outcomes.{searchedOf};
 ghost use Rattle.fields.specs.Calls.{fieldTextAnswer};
 
 // One plain field with the id, or the refusal 21, 22 or 23.
@@ -60,7 +61,7 @@ fn text_in(s: &[u8], id: u32) -> TextAnswer
             let a = field.a;
             let b = field.b;
             TextAnswer::At {
-                place: Offset(text.0 + 2 * a.0),
+                place: unit_place(text, a),
                 length: 2 * (b.0 - a.0),
             }
         }

@@ -2,12 +2,12 @@
 use crate::outcome::Searched;
 use crate::outcome::find_field;
 use crate::outcome::no_field;
-use crate::search::Hit;
 use crate::value::value_wrong;
 use records::Answer;
 use records::Fault;
 use records::Offset;
 use records::refused;
+use search::Hit;
 use section::check;
 use writing::measure;
 use writing::write;
@@ -21,8 +21,8 @@ ghost use Rattle.filling.specs.Filling.{fillable, fits, fillAnswer, fillBytes};
 ghost use Rattle.writing.specs.Sheet.{fieldOf};
 ghost use Rattle.writing.specs.Sheet as Sheet;
 ghost use Rattle.orders.specs.Calls.{fillOf, sheetOf};
-ghost use Rattle.fields.specs.Accepted.{Sound};
-ghost use Rattle.fields.specs.Searching.{searchedOf};
+ghost use Rattle.search.specs.Accepted.{Sound};
+ghost use Rattle.fields.specs.Outcomes.{searchedOf};
 ghost use Rattle.fields.specs.Calls.{leaves, hitSheet};
 
 // The field that may be filled: 20, then 21 to 23, then 24.
@@ -55,10 +55,10 @@ fn put_sheet(s: &[u8], h: Hit, value: &[u8], out: &mut [u8]) -> Answer
     let b = field.b;
     let n = measure(s, header, field.ordinal, a, b, value);
     if 16777216 < n {
-        return refused(Fault::SheetTooLong, 0);
+        return refused(Fault::SheetTooLong, Offset(0));
     }
     if out.len() < n {
-        return refused(Fault::BufferTooShort, 0);
+        return refused(Fault::BufferTooShort, Offset(0));
     }
     write(out, s, header, field.ordinal, a, b, value);
     Answer::Accepted(n)

@@ -1,22 +1,19 @@
 // Number 20: the value of a fill, two bytes for each unit.
-use numbers::number16;
+use reader::next_control;
+use text::Position;
+use text::Step;
 ghost use mathlib.Core.Path.{_≡_};
 ghost use Rattle.text.specs.Units.{units};
 ghost use Rattle.filling.specs.Filling.{anyBelow, valueWrong};
 
-// A unit below 32.
+// A unit below 32: the walk of the value meets one.
 fn any_control(value: &[u8]) -> bool
     ensures { λ r. ⌜ r ≡ anyBelow 32 (units (now (value .entry))) ⌝ }
 {
-    let mut p: usize = 0;
-    while p < value.len() / 2 {
-        let at = 2 * p;
-        if number16(&value[at..]) < 32 {
-            return true;
-        }
-        p += 1;
+    if let Step::End = next_control(value, Position(0)) {
+        return false;
     }
-    false
+    true
 }
 
 // An odd number of bytes, over 1,024 units, or a unit below 32.

@@ -6,7 +6,7 @@ use Rattle.fields.proofs.outcome.find_field.Tie as tie
 use Rattle.fields.proofs.outcome.find_field.Reads as reads
 use Rattle.fields.proofs.outcome.find_field.Lts as lts
 use Rattle.fields.proofs.outcome.no_field.Reads as no-field-reads
-use Rattle.fields.proofs.search.search.Reads as search-reads
+use Rattle.search.proofs.search.Reads as search-reads
 
 search-requires : tie.Need-search-requires
 search-requires c κs = c .before .pre .keep
