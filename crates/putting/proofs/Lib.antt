@@ -1,0 +1,4 @@
+pub mod PuttingLaws
+pub mod KeepingLaws
+pub mod ChildLaws
+pub mod HeadLaws
