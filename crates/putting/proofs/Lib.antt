@@ -1,4 +1,2 @@
 pub mod PuttingLaws
 pub mod KeepingLaws
-pub mod ChildLaws
-pub mod HeadLaws

@@ -42,10 +42,10 @@ pub fn between(a: Position, b: Position) -> usize
 fn within(a: Position, b: Position, start: Position) -> bool
     ensures { λ r. ⌜ r ≡ inside (a .0) (b .0) (start .0) ⌝ }
 {
-    if start.0 < a.0 {
-        return false;
+    if a.0 <= start.0 {
+        return start.0 <= b.0;
     }
-    start.0 <= b.0
+    false
 }
 
 // Where a start goes that is kept.

@@ -21,7 +21,7 @@ use Rattle.paragraph.proofs.StreamLaws.{Read}
 use Rattle.filling.specs.Fields.{Field}
 use Rattle.filling.specs.Editing.{countControl}
 use Rattle.putting.specs.Putting.{largest, Puts, Narrow}
-use Rattle.putting.specs.Child.{recordWith, childBytes}
+use Rattle.changing.specs.Child.{recordWith, childBytes}
 use Rattle.writing.specs.Sheet.{belowBytes, controlsPassed, behindBytes}
 use Rattle.putting.proofs.PuttingLaws.{puts-as, Left, left-start, left-next, left-end}
 

@@ -23,10 +23,10 @@ use Rattle.filling.specs.Editing.{withBody}
 use Rattle.filling.specs.Shapes.{packed, shapesIn, shapesAfter}
 use Rattle.filling.specs.Filling.{newHead, filling, shapesOf}
 use Rattle.putting.specs.Putting.{largest, Puts}
-use Rattle.putting.specs.Child.{recordWith}
+use Rattle.changing.specs.Child.{recordWith}
 use Rattle.writing.specs.Sheet.{fieldOf, behindBytes, paragraphBytes, sheetBytes, sheetOf}
 use Rattle.putting.proofs.PuttingLaws.{puts-as, puts-then}
-use Rattle.putting.proofs.ChildLaws.{shapes-number}
+use Rattle.changing.proofs.ChildLaws.{shapes-number}
 use Rattle.writing.proofs.BehindLaws.{rec-is}
 
 -- ---- the number of shapes

@@ -23,7 +23,7 @@ use Rattle.filling.specs.Filling.{newBody, filling, filled, sheet}
 use Rattle.filling.specs.Search.{Hit, hitOf, hits}
 use Rattle.filling.proofs.EditLaws.{which, is-beyond, is-owned, is-passed, behind-beyond, behind-owned, behind-passed, behind-nil, at-here, at-next, at-past}
 use Rattle.filling.proofs.SearchLaws.{hits-here, hits-past}
-use Rattle.putting.specs.Child.{changedBytes, childBytes}
+use Rattle.changing.specs.Child.{changedBytes, childBytes}
 use Rattle.writing.specs.Sheet.{fieldOf, belowBytes, controlsPassed, behindBytes, paragraphBytes, sheetBytes}
 use Rattle.writing.proofs.SheetLaws.{paragraph-long}
 

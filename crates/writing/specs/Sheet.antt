@@ -11,7 +11,7 @@ use Rattle.paragraph.specs.declared.view.Side.the-variants as S
 use Rattle.filling.specs.Fields.{Field}
 use Rattle.filling.specs.Editing.{withBody, countControl}
 use Rattle.filling.specs.Filling.{filling}
-use Rattle.putting.specs.Child.{childBytes}
+use Rattle.changing.specs.Child.{childBytes}
 
 -- a plain field by its numbers
 abbrev pub fieldOf : ℕ → ℕ → ℕ → Field

@@ -1,11 +1,11 @@
 // The records behind the header of the filled paragraph.
+use changing::Spot;
+use changing::put_child;
+use changing::put_same;
 use paragraph::Side;
 use paragraph::body;
 use paragraph::stands_to;
-use putting::Spot;
-use putting::put_child;
 use putting::put_rest;
-use putting::put_same;
 use records::Ahead;
 use records::Kind;
 use records::Offset;
@@ -16,7 +16,7 @@ ghost use Prim.Native.Nat.{_<_};
 ghost use lib.ListN.{drop};
 ghost use Rattle.paragraph.specs.Stream.{recordsIn};
 ghost use Rattle.putting.specs.Putting.{Puts, Narrow};
-ghost use Rattle.putting.specs.Child.{fieldAt, recordWith};
+ghost use Rattle.changing.specs.Child.{fieldAt, recordWith};
 ghost use Rattle.writing.specs.Sheet.{belowBytes, controlsPassed, behindBytes};
 
 // The paragraph's children as they are passed: the level at which they are, and how many control headers of them are passed.

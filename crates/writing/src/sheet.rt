@@ -1,14 +1,14 @@
 // The sheet of a fill: measured, and written.
 use crate::behind::put_behind;
+use changing::Spot;
+use changing::put_paragraph;
+use changing::shapes_length;
 use paragraph::body;
 use paragraph::bytes;
 use paragraph::find;
 use putting::Change;
-use putting::Spot;
-use putting::put_paragraph;
 use putting::put_part;
 use putting::put_rest;
-use putting::shapes_length;
 use records::Ahead;
 use records::Kind;
 use records::Offset;
@@ -23,7 +23,7 @@ ghost use Rattle.paragraph.specs.Stream.{recordsIn};
 ghost use Rattle.filling.specs.Shapes.{shapesAfter};
 ghost use Rattle.filling.specs.Filling.{shapesOf};
 ghost use Rattle.putting.specs.Putting.{largest, Puts, Narrow};
-ghost use Rattle.putting.specs.Child.{fieldAt};
+ghost use Rattle.changing.specs.Child.{fieldAt};
 ghost use Rattle.writing.specs.Sheet.{fieldOf, sheetBytes, sheetOf};
 
 // How many shapes a paragraph has after a fill; the records behind its header begin at `behind`, its children are at level n.

@@ -6,7 +6,7 @@ use mathlib.Core.Path.{sym, _∙_}
 use lib.ListN.{length}
 use Rattle.numbers.proofs.LittleLaws.{slice-bytes}
 use Rattle.paragraph.proofs.StreamLaws.{Read, read-at, none-at}
-use Rattle.putting.specs.Child.{fieldAt}
+use Rattle.changing.specs.Child.{fieldAt}
 use Rattle.writing.proofs.BehindLaws.{Behind, behind-start, behind-stop, behind-over, behind-go, part-narrow}
 use Rattle.writing.proofs.behind.put_behind.Statement.{statement}
 use Rattle.writing.proofs.behind.put_behind.Tie as tie

@@ -1,6 +1,6 @@
 -- An owned child is changed, all else below is put as it was. Assumes nothing.
 use mathlib.Core.Logic.{⊎-elim}
-use Rattle.putting.specs.Child.{fieldAt, recordWith}
+use Rattle.changing.specs.Child.{fieldAt, recordWith}
 use Rattle.putting.proofs.PuttingLaws.{puts-as}
 use Rattle.writing.proofs.BehindLaws.{below-owned, below-beyond, below-passed}
 use borrow.Author.Needs.{needs}
@@ -9,8 +9,8 @@ use Rattle.writing.proofs.behind.put_below.Tie as tie
 use Rattle.writing.proofs.behind.put_below.Reads as reads
 use Rattle.writing.proofs.behind.put_below.Lts as lts
 use Rattle.paragraph.proofs.stands_to.Reads as stands-to-reads
-use Rattle.putting.proofs.put_child.Reads as put-child-reads
-use Rattle.putting.proofs.put_same.Reads as put-same-reads
+use Rattle.changing.proofs.put_child.Reads as put-child-reads
+use Rattle.changing.proofs.put_same.Reads as put-same-reads
 
 stands-to-requires : tie.Need-stands-to-requires
 stands-to-requires c κs = search needs

@@ -8,7 +8,7 @@ use Rattle.writing.proofs.sheet.count_shapes.Reads as reads
 use Rattle.writing.proofs.sheet.count_shapes.Lts as lts
 use Rattle.paragraph.proofs.bytes.Reads as bytes-reads
 use Rattle.paragraph.proofs.find.Reads as find-reads
-use Rattle.putting.proofs.shapes_length.Reads as shapes-length-reads
+use Rattle.changing.proofs.shapes_length.Reads as shapes-length-reads
 
 find-requires : tie.Need-find-requires
 find-requires c κs = search needs

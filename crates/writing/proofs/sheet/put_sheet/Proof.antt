@@ -3,7 +3,7 @@ use native.Mathlib.Omega.{arith}
 use mathlib.Core.Path.{refl, sym, _∙_}
 use Rattle.numbers.proofs.LittleLaws.{slice-bytes}
 use Rattle.paragraph.proofs.StreamLaws.{Read, read-at, none-at}
-use Rattle.putting.specs.Child.{fieldAt}
+use Rattle.changing.specs.Child.{fieldAt}
 use Rattle.putting.proofs.PuttingLaws.{puts-same}
 use Rattle.writing.proofs.SheetLaws.{sheet-none, sheet-short, sheet-long, body-long}
 use borrow.Author.Needs.{needs}
@@ -12,7 +12,7 @@ use Rattle.writing.proofs.sheet.put_sheet.Tie as tie
 use Rattle.writing.proofs.sheet.put_sheet.Reads as reads
 use Rattle.writing.proofs.sheet.put_sheet.Lts as lts
 use Rattle.paragraph.proofs.body.Reads as body-reads
-use Rattle.putting.proofs.put_paragraph.Reads as put-paragraph-reads
+use Rattle.changing.proofs.put_paragraph.Reads as put-paragraph-reads
 use Rattle.putting.proofs.put_part.Reads as put-part-reads
 use Rattle.putting.proofs.put_rest.Reads as put-rest-reads
 use Rattle.records.proofs.record_at.Reads as record-at-reads

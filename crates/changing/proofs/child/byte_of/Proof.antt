@@ -1,13 +1,13 @@
 -- A position as a place in the text, or its end. Assumes nothing.
 use native.Mathlib.Omega.{arith}
-use Rattle.putting.proofs.ChildLaws.{byte-is}
+use Rattle.changing.proofs.ChildLaws.{byte-is}
 use borrow.Author.Needs.{needs}
-use Rattle.putting.proofs.child.byte_of.Statement.{statement}
-use Rattle.putting.proofs.child.byte_of.Tie as tie
-use Rattle.putting.proofs.child.byte_of.Reads as reads
-use Rattle.putting.proofs.child.byte_of.Lts as lts
+use Rattle.changing.proofs.child.byte_of.Statement.{statement}
+use Rattle.changing.proofs.child.byte_of.Tie as tie
+use Rattle.changing.proofs.child.byte_of.Reads as reads
+use Rattle.changing.proofs.child.byte_of.Lts as lts
 use Rattle.paragraph.proofs.unit_place.Reads as unit-place-reads
-use Rattle.putting.proofs.child.least.Reads as least-reads
+use Rattle.changing.proofs.child.least.Reads as least-reads
 
 unit-place-requires : tie.Need-unit-place-requires
 unit-place-requires c κs = search needs

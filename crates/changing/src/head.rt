@@ -1,13 +1,13 @@
 // The paragraph header after a fill.
-use crate::put::put_head;
-use crate::put::put_low;
-use crate::put::put_part;
-use crate::put::put_rest;
-use crate::shapes::Change;
-use crate::shapes::between;
-use crate::shapes::less;
-use crate::shapes::wide;
 use numbers::number32;
+use putting::Change;
+use putting::between;
+use putting::less;
+use putting::put_head;
+use putting::put_low;
+use putting::put_part;
+use putting::put_rest;
+use putting::wide;
 use records::Offset;
 use records::Record;
 ghost use mathlib.Core.Path.{_≡_};
@@ -15,8 +15,8 @@ ghost use Prim.Native.Nat.{_≤_, _<_};
 ghost use lib.ListN.{length};
 ghost use Rattle.records.specs.Records.{encodeOne};
 ghost use Rattle.filling.specs.Filling.{recounted, newHead};
 ghost use Rattle.putting.specs.Putting.{Puts};
-ghost use Rattle.putting.specs.Child.{recordWith};
+ghost use Rattle.changing.specs.Child.{recordWith};
 
 // The 32 bits that hold the count, changed; bit 31 is kept.
 fn recount(change: Change, w: usize) -> usize

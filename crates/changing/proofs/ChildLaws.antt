@@ -24,10 +24,10 @@ use Rattle.filling.specs.Shapes.{Entry, entryAt, inside, anyInside, startAt, mo
 use Rattle.filling.specs.Editing.{withBody}
 use Rattle.filling.specs.Filling.{altered, withBit15, newBody}
 use Rattle.filling.proofs.PackingLaws.{length-packed}
-use Rattle.putting.specs.declared.child.Spot.{Spot}
+use Rattle.changing.specs.declared.child.Spot.{Spot}
 use Rattle.putting.specs.Putting.{largest, Puts}
-use Rattle.putting.specs.Child.{fieldAt, recordWith, changedBytes, childBytes}
+use Rattle.changing.specs.Child.{fieldAt, recordWith, changedBytes, childBytes}
 use Rattle.putting.proofs.PuttingLaws.{puts-as, puts-then}
 
 -- a header, and a body behind it
 pub puts-record : (r : Record) {out mid after body : List ℕ} {at p q n : ℕ} → n ≡ length body → Puts out at (headerOf (r .tag) (r .level) n) p mid

@@ -1,13 +1,13 @@
 -- A header and the entries behind it. Assumes nothing.
-use Rattle.putting.proofs.ChildLaws.{puts-record}
+use Rattle.changing.proofs.ChildLaws.{puts-record}
 use borrow.Author.Needs.{needs}
-use Rattle.putting.proofs.child.put_shapes.Statement.{statement}
-use Rattle.putting.proofs.child.put_shapes.Tie as tie
-use Rattle.putting.proofs.child.put_shapes.Reads as reads
-use Rattle.putting.proofs.child.put_shapes.Lts as lts
-use Rattle.putting.proofs.child.shapes_length.Reads as shapes-length-reads
-use Rattle.putting.proofs.put.put_head.Reads as put-head-reads
-use Rattle.putting.proofs.shapes.put_entries.Reads as put-entries-reads
+use Rattle.changing.proofs.child.put_shapes.Statement.{statement}
+use Rattle.changing.proofs.child.put_shapes.Tie as tie
+use Rattle.changing.proofs.child.put_shapes.Reads as reads
+use Rattle.changing.proofs.child.put_shapes.Lts as lts
+use Rattle.changing.proofs.child.shapes_length.Reads as shapes-length-reads
+use Rattle.putting.proofs.put_head.Reads as put-head-reads
+use Rattle.putting.proofs.put_entries.Reads as put-entries-reads
 
 shapes-length-requires : tie.Need-shapes-length-requires
 shapes-length-requires c κs = search needs

@@ -1,12 +1,12 @@
 -- The count changed, bit 31 kept. Assumes nothing.
-use Rattle.putting.proofs.HeadLaws.{recount-is}
+use Rattle.changing.proofs.HeadLaws.{recount-is}
 use borrow.Author.Needs.{needs}
-use Rattle.putting.proofs.head.recount.Statement.{statement}
-use Rattle.putting.proofs.head.recount.Tie as tie
-use Rattle.putting.proofs.head.recount.Reads as reads
-use Rattle.putting.proofs.head.recount.Lts as lts
-use Rattle.putting.proofs.shapes.between.Reads as between-reads
-use Rattle.putting.proofs.shapes.less.Reads as less-reads
+use Rattle.changing.proofs.head.recount.Statement.{statement}
+use Rattle.changing.proofs.head.recount.Tie as tie
+use Rattle.changing.proofs.head.recount.Reads as reads
+use Rattle.changing.proofs.head.recount.Lts as lts
+use Rattle.putting.proofs.between.Reads as between-reads
+use Rattle.putting.proofs.less.Reads as less-reads
 
 mul-flag : tie.Need-mul-flag
 mul-flag c = search needs

@@ -1,19 +1,19 @@
 -- Count, shapes and lines changed, all else as it was. Assumes nothing.
-use Rattle.putting.proofs.HeadLaws.{head-length, head-bytes}
+use Rattle.changing.proofs.HeadLaws.{head-length, head-bytes}
 use Rattle.putting.proofs.PuttingLaws.{puts-as, puts-then, puts-same}
-use Rattle.putting.proofs.ChildLaws.{puts-record}
+use Rattle.changing.proofs.ChildLaws.{puts-record}
 use borrow.Author.Needs.{needs}
-use Rattle.putting.proofs.head.put_paragraph.Statement.{statement}
-use Rattle.putting.proofs.head.put_paragraph.Tie as tie
-use Rattle.putting.proofs.head.put_paragraph.Reads as reads
-use Rattle.putting.proofs.head.put_paragraph.Lts as lts
+use Rattle.changing.proofs.head.put_paragraph.Statement.{statement}
+use Rattle.changing.proofs.head.put_paragraph.Tie as tie
+use Rattle.changing.proofs.head.put_paragraph.Reads as reads
+use Rattle.changing.proofs.head.put_paragraph.Lts as lts
 use Rattle.numbers.proofs.number32.Reads as number32-reads
-use Rattle.putting.proofs.head.recount.Reads as recount-reads
-use Rattle.putting.proofs.put.put_head.Reads as put-head-reads
-use Rattle.putting.proofs.put.put_low.Reads as put-low-reads
-use Rattle.putting.proofs.put.put_part.Reads as put-part-reads
-use Rattle.putting.proofs.put.put_rest.Reads as put-rest-reads
-use Rattle.putting.proofs.shapes.wide.Reads as wide-reads
+use Rattle.changing.proofs.head.recount.Reads as recount-reads
+use Rattle.putting.proofs.put_head.Reads as put-head-reads
+use Rattle.putting.proofs.put_low.Reads as put-low-reads
+use Rattle.putting.proofs.put_part.Reads as put-part-reads
+use Rattle.putting.proofs.put_rest.Reads as put-rest-reads
+use Rattle.putting.proofs.wide.Reads as wide-reads
 
 number32-requires : tie.Need-number32-requires
 number32-requires c κs = search needs

@@ -1,12 +1,12 @@
 -- As many bytes as would be put. Assumes nothing.
 use native.Mathlib.Omega.{arith}
-use Rattle.putting.proofs.ChildLaws.{shapes-measured}
+use Rattle.changing.proofs.ChildLaws.{shapes-measured}
 use borrow.Author.Needs.{needs}
-use Rattle.putting.proofs.child.shapes_length.Statement.{statement}
-use Rattle.putting.proofs.child.shapes_length.Tie as tie
-use Rattle.putting.proofs.child.shapes_length.Reads as reads
-use Rattle.putting.proofs.child.shapes_length.Lts as lts
-use Rattle.putting.proofs.shapes.put_entries.Reads as put-entries-reads
+use Rattle.changing.proofs.child.shapes_length.Statement.{statement}
+use Rattle.changing.proofs.child.shapes_length.Tie as tie
+use Rattle.changing.proofs.child.shapes_length.Reads as reads
+use Rattle.changing.proofs.child.shapes_length.Lts as lts
+use Rattle.putting.proofs.put_entries.Reads as put-entries-reads
 
 slice-aggregate-put-entries : tie.Need-slice-aggregate-put-entries
 slice-aggregate-put-entries c = search needs

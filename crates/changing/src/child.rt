@@ -1,17 +1,17 @@
 // The records of the filled paragraph, by kind.
-use crate::put::put_head;
-use crate::put::put_low;
-use crate::put::put_part;
-use crate::put::put_rest;
-use crate::put::put_run;
-use crate::shapes::Change;
-use crate::shapes::less;
-use crate::shapes::put_entries;
-use crate::shapes::wide;
 use filling::with_bit_15;
 use numbers::number32;
 use numbers::part;
 use paragraph::unit_place;
+use putting::Change;
+use putting::less;
+use putting::put_entries;
+use putting::put_head;
+use putting::put_low;
+use putting::put_part;
+use putting::put_rest;
+use putting::put_run;
+use putting::wide;
 use records::Kind;
 use records::Offset;
 use records::Record;
@@ -23,8 +23,8 @@ ghost use Rattle.records.specs.Records.{encodeOne};
 ghost use Rattle.filling.specs.Replacing.{replaced};
 ghost use Rattle.filling.specs.Shapes.{packed, shapesIn, shapesAfter};
 ghost use Rattle.filling.specs.Filling.{altered};
 ghost use Rattle.putting.specs.Putting.{Puts, Narrow};
-ghost use Rattle.putting.specs.Child.{fieldAt, recordWith, childBytes};
+ghost use Rattle.changing.specs.Child.{fieldAt, recordWith, childBytes};
 
 // Where in its paragraph the field stands: how many extended controls stand before it, and the positions at which its value starts
 // and ends.

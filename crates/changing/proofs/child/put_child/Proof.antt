@@ -1,17 +1,17 @@
 -- By its kind a child is changed, put as it was, or goes. Assumes nothing.
 use native.Mathlib.Omega.{arith}
 use mathlib.Core.Logic.{⊎-elim}
 use Rattle.putting.proofs.PuttingLaws.{puts-as, puts-none}
-use Rattle.putting.proofs.ChildLaws.{child-text, child-shapes, child-layout, child-altered, child-control, child-other}
+use Rattle.changing.proofs.ChildLaws.{child-text, child-shapes, child-layout, child-altered, child-control, child-other}
 use borrow.Author.Needs.{needs}
-use Rattle.putting.proofs.child.put_child.Statement.{statement}
-use Rattle.putting.proofs.child.put_child.Tie as tie
-use Rattle.putting.proofs.child.put_child.Reads as reads
-use Rattle.putting.proofs.child.put_child.Lts as lts
-use Rattle.putting.proofs.child.put_altered.Reads as put-altered-reads
-use Rattle.putting.proofs.child.put_same.Reads as put-same-reads
-use Rattle.putting.proofs.child.put_shapes.Reads as put-shapes-reads
-use Rattle.putting.proofs.child.put_text.Reads as put-text-reads
+use Rattle.changing.proofs.child.put_child.Statement.{statement}
+use Rattle.changing.proofs.child.put_child.Tie as tie
+use Rattle.changing.proofs.child.put_child.Reads as reads
+use Rattle.changing.proofs.child.put_child.Lts as lts
+use Rattle.changing.proofs.child.put_altered.Reads as put-altered-reads
+use Rattle.changing.proofs.child.put_same.Reads as put-same-reads
+use Rattle.changing.proofs.child.put_shapes.Reads as put-shapes-reads
+use Rattle.changing.proofs.child.put_text.Reads as put-text-reads
 
 put-text-requires : tie.Need-put-text-requires
 put-text-requires c κs = search needs

@@ -1,16 +1,16 @@
 -- The text before a, the value, the text from b on. Assumes nothing.
 use Rattle.putting.proofs.PuttingLaws.{puts-as, puts-then}
-use Rattle.putting.proofs.ChildLaws.{puts-record, text-length, text-bytes}
+use Rattle.changing.proofs.ChildLaws.{puts-record, text-length, text-bytes}
 use borrow.Author.Needs.{needs}
-use Rattle.putting.proofs.child.put_text.Statement.{statement}
-use Rattle.putting.proofs.child.put_text.Tie as tie
-use Rattle.putting.proofs.child.put_text.Reads as reads
-use Rattle.putting.proofs.child.put_text.Lts as lts
-use Rattle.putting.proofs.child.byte_of.Reads as byte-of-reads
-use Rattle.putting.proofs.put.put_head.Reads as put-head-reads
-use Rattle.putting.proofs.put.put_part.Reads as put-part-reads
-use Rattle.putting.proofs.put.put_rest.Reads as put-rest-reads
-use Rattle.putting.proofs.put.put_run.Reads as put-run-reads
+use Rattle.changing.proofs.child.put_text.Statement.{statement}
+use Rattle.changing.proofs.child.put_text.Tie as tie
+use Rattle.changing.proofs.child.put_text.Reads as reads
+use Rattle.changing.proofs.child.put_text.Lts as lts
+use Rattle.changing.proofs.child.byte_of.Reads as byte-of-reads
+use Rattle.putting.proofs.put_head.Reads as put-head-reads
+use Rattle.putting.proofs.put_part.Reads as put-part-reads
+use Rattle.putting.proofs.put_rest.Reads as put-rest-reads
+use Rattle.putting.proofs.put_run.Reads as put-run-reads
 
 byte-of-requires : tie.Need-byte-of-requires
 byte-of-requires c κs = search needs

@@ -1,13 +1,13 @@
 -- A header and the body behind it. Assumes nothing.
 use mathlib.Core.Path.{refl}
-use Rattle.putting.proofs.ChildLaws.{puts-record}
+use Rattle.changing.proofs.ChildLaws.{puts-record}
 use borrow.Author.Needs.{needs}
-use Rattle.putting.proofs.child.put_same.Statement.{statement}
-use Rattle.putting.proofs.child.put_same.Tie as tie
-use Rattle.putting.proofs.child.put_same.Reads as reads
-use Rattle.putting.proofs.child.put_same.Lts as lts
-use Rattle.putting.proofs.put.put_head.Reads as put-head-reads
-use Rattle.putting.proofs.put.put_run.Reads as put-run-reads
+use Rattle.changing.proofs.child.put_same.Statement.{statement}
+use Rattle.changing.proofs.child.put_same.Tie as tie
+use Rattle.changing.proofs.child.put_same.Reads as reads
+use Rattle.changing.proofs.child.put_same.Lts as lts
+use Rattle.putting.proofs.put_head.Reads as put-head-reads
+use Rattle.putting.proofs.put_run.Reads as put-run-reads
 
 put-head-requires : tie.Need-put-head-requires
 put-head-requires c κs = search needs

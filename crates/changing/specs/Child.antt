@@ -8,7 +8,7 @@ use Rattle.records.specs.declared.header.Record.{Record}
 use Rattle.filling.specs.Fields.{Field}
 use Rattle.filling.specs.Editing.{withBody}
 use Rattle.filling.specs.Filling.{newBody}
-use Rattle.putting.specs.declared.child.Spot.{Spot}
+use Rattle.changing.specs.declared.child.Spot.{Spot}
 
 -- a plain field by where it stands
 abbrev pub fieldAt : Spot → Field

@@ -1,23 +1,23 @@
 -- Bit 15 set, all else as it was. Assumes nothing.
 use mathlib.Core.Path.{ap, _∙_}
 use Rattle.numbers.specs.Little.{little}
 use Rattle.putting.proofs.PuttingLaws.{puts-as, puts-then}
-use Rattle.putting.proofs.ChildLaws.{puts-record, altered-length, altered-bytes}
+use Rattle.changing.proofs.ChildLaws.{puts-record, altered-length, altered-bytes}
 use borrow.Author.Needs.{needs}
-use Rattle.putting.proofs.child.put_altered.Statement.{statement}
-use Rattle.putting.proofs.child.put_altered.Tie as tie
-use Rattle.putting.proofs.child.put_altered.Reads as reads
-use Rattle.putting.proofs.child.put_altered.Lts as lts
+use Rattle.changing.proofs.child.put_altered.Statement.{statement}
+use Rattle.changing.proofs.child.put_altered.Tie as tie
+use Rattle.changing.proofs.child.put_altered.Reads as reads
+use Rattle.changing.proofs.child.put_altered.Lts as lts
 use Rattle.filling.proofs.with_bit_15.Reads as with-bit-15-reads
 use Rattle.numbers.proofs.number32.Reads as number32-reads
 use Rattle.numbers.proofs.part.Reads as part-reads
-use Rattle.putting.proofs.child.least.Reads as least-reads
-use Rattle.putting.proofs.put.put_head.Reads as put-head-reads
-use Rattle.putting.proofs.put.put_low.Reads as put-low-reads
-use Rattle.putting.proofs.put.put_part.Reads as put-part-reads
-use Rattle.putting.proofs.put.put_rest.Reads as put-rest-reads
-use Rattle.putting.proofs.shapes.less.Reads as less-reads
-use Rattle.putting.proofs.shapes.wide.Reads as wide-reads
+use Rattle.changing.proofs.child.least.Reads as least-reads
+use Rattle.putting.proofs.put_head.Reads as put-head-reads
+use Rattle.putting.proofs.put_low.Reads as put-low-reads
+use Rattle.putting.proofs.put_part.Reads as put-part-reads
+use Rattle.putting.proofs.put_rest.Reads as put-rest-reads
+use Rattle.putting.proofs.less.Reads as less-reads
+use Rattle.putting.proofs.wide.Reads as wide-reads
 
 least-requires : tie.Need-least-requires
 least-requires c κs = search needs
