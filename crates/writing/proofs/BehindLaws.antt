@@ -9,43 +9,45 @@ use lib.Dec.{eqb}
 use borrow.Author.Tests.{lt-ltb, le-ltb, eq-eqb, ne-eqb}
 use lib.ListN.{length, take, drop, length-take, length-drop}
 use lib.Seq.{take-all}
+use Rattle.records.specs.Kinds as kind
 use Rattle.records.specs.Records.{Rec, encodeOne, size}
-use Rattle.records.specs.declared.header.Header.{Header}
-use Rattle.pack.specs.Rows.{recordOf}
+use Rattle.records.specs.declared.header.Record.{Record}
 use Rattle.paragraph.specs.View.{side}
 use Rattle.paragraph.specs.Stream.{recordsIn}
+use Rattle.paragraph.specs.Places.{bodyOf}
 use Rattle.paragraph.specs.declared.view.Side.{Side}
 use Rattle.paragraph.specs.declared.view.Side.the-variants as S
 use Rattle.paragraph.proofs.StreamLaws.{Read}
 use Rattle.filling.specs.Fields.{Field}
 use Rattle.filling.specs.Editing.{countControl}
-use Rattle.writing.specs.Putting.{largest, Puts, Narrow}
-use Rattle.writing.specs.Sheet.{childBytes, belowBytes, controlsPassed, behindBytes}
-use Rattle.writing.proofs.PuttingLaws.{puts-as, Left, left-start, left-next, left-end}
+use Rattle.putting.specs.Putting.{largest, Puts, Narrow}
+use Rattle.changing.specs.Child.{recordWith, childBytes}
+use Rattle.writing.specs.Sheet.{belowBytes, controlsPassed, behindBytes}
+use Rattle.putting.proofs.PuttingLaws.{puts-as, Left, left-start, left-next, left-end}
 
 -- ---- one record
 
-module _ (f : Field) (value : List ℕ) (n j tag level : ℕ) (body : List ℕ) {t : Side} (e : t ≡ side n tag level) where
-  pub below-owned : t ≡ S.Owned → childBytes f value j (recordOf tag level body) ≡ belowBytes f value n j (recordOf tag level body)
+module _ (f : Field) (value : List ℕ) (n j : ℕ) (r : Rec) {t : Side} (e : t ≡ side n (r .tag) (r .level)) where
+  pub below-owned : t ≡ S.Owned → childBytes f value j r ≡ belowBytes f value n j r
   unfolding belowBytes
   below-owned q = rw (sym e ∙ q, belowBytes)
 
-  pub below-beyond : t ≡ S.Beyond → encodeOne (recordOf tag level body) ≡ belowBytes f value n j (recordOf tag level body)
+  pub below-beyond : t ≡ S.Beyond → encodeOne r ≡ belowBytes f value n j r
   unfolding belowBytes
   below-beyond q = rw (sym e ∙ q, belowBytes)
 
-  pub below-passed : t ≡ S.Passed → encodeOne (recordOf tag level body) ≡ belowBytes f value n j (recordOf tag level body)
+  pub below-passed : t ≡ S.Passed → encodeOne r ≡ belowBytes f value n j r
   unfolding belowBytes
   below-passed q = rw (sym e ∙ q, belowBytes)
 
 module _ (n j tag level : ℕ) {t : Side} (e : t ≡ side n tag level) where
-  pub passed-control : t ≡ S.Owned → tag ≡ 71 → j + 1 ≡ controlsPassed n j tag level
+  pub passed-control : t ≡ S.Owned → tag ≡ kind.controlHeader → j + 1 ≡ controlsPassed n j tag level
   unfolding controlsPassed countControl
-  passed-control q g = rw (sym e ∙ q, controlsPassed, eq-eqb tag 71 g, countControl) (add-one j)
+  passed-control q g = rw (sym e ∙ q, controlsPassed, eq-eqb tag kind.controlHeader g, countControl) (add-one j)
 
-  pub passed-owned : t ≡ S.Owned → (tag ≡ 71 → ⊥) → j ≡ controlsPassed n j tag level
+  pub passed-owned : t ≡ S.Owned → (tag ≡ kind.controlHeader → ⊥) → j ≡ controlsPassed n j tag level
   unfolding controlsPassed countControl
-  passed-owned q g = rw (sym e ∙ q, controlsPassed, ne-eqb tag 71 g, countControl)
+  passed-owned q g = rw (sym e ∙ q, controlsPassed, ne-eqb tag kind.controlHeader g, countControl)
 
   pub passed-beyond : t ≡ S.Beyond → j ≡ controlsPassed n j tag level
   unfolding controlsPassed
@@ -57,7 +59,7 @@ module _ (n j tag level : ℕ) {t : Side} (e : t ≡ side n tag level) where
 
 passed-most : (n j tag level : ℕ) → controlsPassed n j tag level ≤ j + 1
 unfolding controlsPassed countControl
-passed-most n j tag level = by (side n tag level) (eqb tag 71)
+passed-most n j tag level = by (side n tag level) (eqb tag kind.controlHeader)
   where
     by : (t : Side) (q : Bool) → (elim t [ S.Beyond ↦ j | S.Owned ↦ cond q (suc j) j | S.Passed ↦ j ]) ≤ j + 1
     by S.Beyond q = omega arith
@@ -81,12 +83,10 @@ module _ (f : Field) (value : List ℕ) (n j : ℕ) (s : List ℕ) (at : ℕ) wh
   unfolding behindBytes
   behind-next r rs h = rw (le-ltb (r .level) n h)
 
--- the record that was read, by its parts
-pub rec-is : {s : List ℕ} {place : ℕ} {h : Header} (d : Read s place h) {body : List ℕ} → body ≡ take (h .length) (drop (place + h .lead) s)
-    → recordOf (h .tag) (h .level) body ≡ d .rec
-rec-is {s} {place} {h} d {body} e =
-    let b : body ≡ d .rec .body = e ∙ rw (d .lead-is, d .length-is) (d .stands .body-is) in
-    ap₂ (λ (x y : ℕ). recordOf x y body) (d .tag-is) (d .level-is) ∙ ap (recordOf (d .rec .tag) (d .rec .level)) b
+-- the record that was read, with its own body
+pub rec-is : {s : List ℕ} {place : ℕ} {r : Record} (d : Read s place r) {body : List ℕ} → body ≡ bodyOf s r → recordWith r body ≡ d .rec
+rec-is {s} {place} {r} d {body} e =
+    ap₂ (λ (x y : ℕ). record { tag = x; level = y; body = body }) (d .tag-is) (d .level-is) ∙ ap (λ (l : List ℕ). record { tag = d .rec .tag; level = d .rec .level; body = l }) (e ∙ d .body-is)
 
 -- ---- the loop
 
@@ -98,44 +98,35 @@ pub behind-start : (out : List ℕ) (at : ℕ) (f : Field) (value : List ℕ) (n
     → Behind out at f value n s from from at 0 out
 behind-start out at f value n s from h k = record { small = omega arith; left = left-start out at _ _ h k refl }
 
--- the rest of the stream in one run
-pub run-rest : (s : List ℕ) (place : ℕ) → take (length s) (drop place s) ≡ drop place s
-run-rest s place = take-all (length s) (drop place s) (omega (arith, length-drop place s))
-
 module _ {out₀ value s out : List ℕ} {at₀ n from place p nth : ℕ} {f : Field} (k : Behind out₀ at₀ f value n s from place p nth out) where
   module _ {after : List ℕ} {q : ℕ} where
-    pub behind-stop : recordsIn (drop place s) ≡ [] → Puts out p (take (length s) (drop place s)) q after
+    pub behind-stop : recordsIn (drop place s) ≡ [] → Puts out p (drop place s) q after
         → Puts out₀ at₀ (behindBytes f value n 0 s from (recordsIn (drop from s))) q after
-    behind-stop e t =
-        left-end (k .left) (puts-as (run-rest s place ∙ sym (behind-none f value n nth s place (recordsIn (drop place s)) e)) t)
+    behind-stop e t = left-end (k .left) (puts-as (sym (behind-none f value n nth s place (recordsIn (drop place s)) e)) t)
 
-    module _ {h : Header} (d : Read s place h) where
-      pub behind-over : h .level < n → Puts out p (take (length s) (drop place s)) q after
-          → Puts out₀ at₀ (behindBytes f value n 0 s from (recordsIn (drop from s))) q after
+    module _ {r : Record} (d : Read s place r) where
+      pub behind-over : r .level < n → Puts out p (drop place s) q after → Puts out₀ at₀ (behindBytes f value n 0 s from (recordsIn (drop from s))) q after
       behind-over l t =
           left-end (k .left)
           (puts-as
-          (run-rest s place
-          ∙ sym
-          (ap (behindBytes f value n nth s place) (d .stands .records)
+          (sym
+          (ap (behindBytes f value n nth s place) (d .records)
           ∙ behind-beyond f value n nth s place (d .rec) _ (rw (← d .level-is) l)))
           t)
 
-      pub behind-go : {body : List ℕ} {m : ℕ} → n ≤ h .level → body ≡ take (h .length) (drop (place + h .lead) s)
-          → Puts out p (belowBytes f value n nth (recordOf (h .tag) (h .level) body)) q after → m ≡ controlsPassed n nth (h .tag) (h .level)
-          → Behind out₀ at₀ f value n s from (place + h .lead + h .length) q m after
+      pub behind-go : {body : List ℕ} {m : ℕ} → n ≤ r .level → body ≡ bodyOf s r → Puts out p (belowBytes f value n nth (recordWith r body)) q after
+          → m ≡ controlsPassed n nth (r .tag) (r .level) → Behind out₀ at₀ f value n s from (r .next .0) q m after
       behind-go {body} {m} l e t g =
-          let end : place + size (d .rec) ≡ place + h .lead + h .length = omega (arith, d .size-is) in
           let g' : m ≡ controlsPassed n nth (d .rec .tag) (d .rec .level) = g ∙ ap₂ (controlsPassed n nth) (d .tag-is) (d .level-is) in
           record {
-            small = omega (arith, passed-most n nth (h .tag) (h .level), d .size-is, d .least, k .small);
+            small = omega (arith, passed-most n nth (r .tag) (r .level), d .next-is, d .least, k .small);
             left =
                 left-next (k .left)
-                (ap (behindBytes f value n nth s place) (d .stands .records)
+                (ap (behindBytes f value n nth s place) (d .records)
                 ∙ behind-next f value n nth s place (d .rec) _ (rw (← d .level-is) l)
-                ∙ ap₂ (λ (x : ℕ) (y : ℕ). belowBytes f value n nth (d .rec) ++ behindBytes f value n x s y (recordsIn (drop y s))) (sym g') end)
+                ∙ ap₂ (λ (x y : ℕ). belowBytes f value n nth (d .rec) ++ behindBytes f value n x s y (recordsIn (drop (r .next .0) s))) (sym g') (sym (d .next-is)))
                 (puts-as (ap (belowBytes f value n nth) (rec-is d e)) t);
           }
 
-pub part-narrow : (s body : List ℕ) (from n : ℕ) → body ≡ take n (drop from s) → Narrow s → Narrow body
-part-narrow s body from n e h = omega (arith, ap length e, length-take n (drop from s), length-drop from s)
+pub part-narrow : (s : List ℕ) (r : Record) {body : List ℕ} → body ≡ bodyOf s r → Narrow s → Narrow body
+part-narrow s r e h = omega (arith, ap length e, length-take (r .length) (drop (r .body .0) s), length-drop (r .body .0) s)

@@ -15,7 +15,7 @@ use Rattle.records.specs.Table.{written}
 use Rattle.paragraph.specs.Stream.{recordsIn}
 use Rattle.filling.specs.Filling.{fits, sheet}
 use Rattle.filling.specs.Search.{Hit, hits}
-use Rattle.writing.specs.Putting.{largest, Puts}
+use Rattle.putting.specs.Putting.{largest, Puts}
 use Rattle.writing.specs.Sheet.{fieldOf, sheetOf}
 use Rattle.writing.proofs.SheetLaws.{sheet-of}
 use Rattle.writing.proofs.WholeLaws.{sheet-is}

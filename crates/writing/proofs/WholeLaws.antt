@@ -10,6 +10,7 @@ use borrow.Author.Tests.{eqb-true, eqb-false, lt-ltb, le-ltb}
 use lib.ListN.{length, take, drop}
 use lib.Seq.{take-at, drop-at, take-add, drop-drop}
 use Rattle.numbers.specs.Little.{Bytes}
+use Rattle.records.specs.Kinds as kind
 use Rattle.records.specs.Records.{Rec, encode, encodeOne, size}
 use Rattle.records.proofs.ReadingLaws.{length-encodeOne}
 use Rattle.paragraph.specs.View.{view, side}
@@ -22,7 +23,8 @@ use Rattle.filling.specs.Filling.{newBody, filling, filled, sheet}
 use Rattle.filling.specs.Search.{Hit, hitOf, hits}
 use Rattle.filling.proofs.EditLaws.{which, is-beyond, is-owned, is-passed, behind-beyond, behind-owned, behind-passed, behind-nil, at-here, at-next, at-past}
 use Rattle.filling.proofs.SearchLaws.{hits-here, hits-past}
-use Rattle.writing.specs.Sheet.{fieldOf, changedBytes, childBytes, belowBytes, controlsPassed, behindBytes, paragraphBytes, sheetBytes}
+use Rattle.changing.specs.Child.{changedBytes, childBytes}
+use Rattle.writing.specs.Sheet.{fieldOf, belowBytes, controlsPassed, behindBytes, paragraphBytes, sheetBytes}
 use Rattle.writing.proofs.SheetLaws.{paragraph-long}
 
 -- ---- behind a paragraph header
@@ -103,7 +105,7 @@ pub record Where (s : List ℕ) (rs : List Rec) (i at paragraph header : ℕ) : 
   pub edit : (e : Edit) → take header s ++ encode (editHere e rec behind) ≡ take at s ++ encode (editAt (paragraph - i) e rs)
 
 module _ (s : List ℕ) (bs : Bytes s) where
-  where-here : (at i : ℕ) (r : Rec) (rs : List Rec) → recordsIn (drop at s) ≡ r ∷ rs → encode (r ∷ rs) ≡ drop at s → r .tag ≡ 66 → Where s (r ∷ rs) i at i at
+  where-here : (at i : ℕ) (r : Rec) (rs : List Rec) → recordsIn (drop at s) ≡ r ∷ rs → encode (r ∷ rs) ≡ drop at s → r .tag ≡ kind.paragraphHeader → Where s (r ∷ rs) i at i at
   where-here at i r rs e w t =
       let z : i - i ≡ 0 = omega arith in
       record {
@@ -137,12 +139,12 @@ module _ (s : List ℕ) (bs : Bytes s) where
   unfolding hits hitOf
   first-hit id i at [] h hs e w q = absurd (let z : _≡_ {A = ℕ} 0 1 = cc in omega arith)
   first-hit id i at (r ∷ rs) h hs e w q =
-      by (λ m g. first-hit id m (at + size r) rs h hs (stood-of s at bs r rs e .1) (behind-is r rs s at w) g) (eqb (r .tag) 66) refl
+      by (λ m g. first-hit id m (at + size r) rs h hs (stood-of s at bs r rs e .1) (behind-is r rs s at w) g) (eqb (r .tag) kind.paragraphHeader) refl
     where
       Rest : Type 0
       Rest = (m : ℕ) → hits id m (at + size r) rs ≡ h ∷ hs → Where s rs m (at + size r) (h .paragraph) (h .header)
 
-      here : Rest → (t : r .tag ≡ 66) (fs : List Field) → map (hitOf i at r rs) fs ++ hits id (suc i) (at + size r) rs ≡ h ∷ hs
+      here : Rest → (t : r .tag ≡ kind.paragraphHeader) (fs : List Field) → map (hitOf i at r rs) fs ++ hits id (suc i) (at + size r) rs ≡ h ∷ hs
           → Where s (r ∷ rs) i at (h .paragraph) (h .header)
       here rest t [] g =
           let k = rest (suc i) g in
@@ -157,12 +159,12 @@ module _ (s : List ℕ) (bs : Bytes s) where
           let b : at ≡ h .header = ap (λ (x : Hit). x .header) o in
           rw (← a, ← b) (where-here at i r rs e w t)
 
-      by : Rest → (b : Bool) → eqb (r .tag) 66 ≡ b → Where s (r ∷ rs) i at (h .paragraph) (h .header)
+      by : Rest → (b : Bool) → eqb (r .tag) kind.paragraphHeader ≡ b → Where s (r ∷ rs) i at (h .paragraph) (h .header)
       by rest true t =
-          let u = eqb-true (r .tag) 66 t in
+          let u = eqb-true (r .tag) kind.paragraphHeader t in
           here rest u (withId id (view r rs) (fields (view r rs))) (sym (hits-here id i at r rs u) ∙ q)
       by rest false t =
-          let u = eqb-false (r .tag) 66 t in
+          let u = eqb-false (r .tag) kind.paragraphHeader t in
           where-behind at i i (h .paragraph) (h .header) r rs w (omega arith) (λ d. at-past d r rs (h .paragraph - i) u)
           (rest i (sym (hits-past id i at r rs u) ∙ q))
 

@@ -1,7 +1,6 @@
 -- The sheet by the bytes of the stream: what it writes in order (document 01, 'Filling a field').
 use Prim.Native.Nat.{ℕ, suc, _+_}
 use mathlib.Core.Bool.{true, cond}
-use mathlib.Core.Option.{Option, none, some}
 use mathlib.Core.List.{List, [], _∷_, _++_}
 use lib.Dec.{ltb}
 use lib.ListN.{length, take, drop}
@@ -11,20 +10,12 @@ use Rattle.paragraph.specs.Stream.{recordsIn}
 use Rattle.paragraph.specs.declared.view.Side.the-variants as S
 use Rattle.filling.specs.Fields.{Field}
 use Rattle.filling.specs.Editing.{withBody, countControl}
-use Rattle.filling.specs.Filling.{newBody, filling}
+use Rattle.filling.specs.Filling.{filling}
+use Rattle.changing.specs.Child.{childBytes}
 
 -- a plain field by its numbers
 abbrev pub fieldOf : ℕ → ℕ → ℕ → Field
 fieldOf ordinal a b = record { ordinal = ordinal; a = a; b = b; plain = true }
-
--- the bytes of a record with its new body, or of none where it goes
-unfoldable pub changedBytes : Option (List ℕ) → Rec → List ℕ
-changedBytes none r = []
-changedBytes (some b) r = encodeOne (withBody b r)
-
--- what becomes of an owned child, before which j control headers stand
-unfoldable pub childBytes : Field → List ℕ → ℕ → Rec → List ℕ
-childBytes f value j r = changedBytes (newBody f value j (r .tag) (r .body)) r
 
 -- what becomes of a record below a paragraph header whose children are at level n
 unfoldable pub belowBytes : Field → List ℕ → ℕ → ℕ → Rec → List ℕ

@@ -1,22 +1,23 @@
 // The records behind the header of the filled paragraph.
-use crate::child::Spot;
-use crate::child::put_child;
-use crate::child::put_same;
-use crate::put::put_part;
-use numbers::part;
+use changing::Spot;
+use changing::put_child;
+use changing::put_same;
 use paragraph::Side;
+use paragraph::body;
 use paragraph::stands_to;
-use records::Front;
-use records::Header;
+use putting::put_rest;
+use records::Ahead;
 use records::Kind;
-use records::first;
+use records::Offset;
+use records::Record;
+use records::record_at;
 ghost use mathlib.Core.Path.{_≡_};
 ghost use Prim.Native.Nat.{_<_};
 ghost use lib.ListN.{drop};
-ghost use Rattle.pack.specs.Rows.{recordOf};
 ghost use Rattle.paragraph.specs.Stream.{recordsIn};
-ghost use Rattle.writing.specs.Putting.{Puts, Narrow};
-ghost use Rattle.writing.specs.Sheet.{fieldOf, belowBytes, controlsPassed, behindBytes};
+ghost use Rattle.putting.specs.Putting.{Puts, Narrow};
+ghost use Rattle.changing.specs.Child.{fieldAt, recordWith};
+ghost use Rattle.writing.specs.Sheet.{belowBytes, controlsPassed, behindBytes};
 
 // The paragraph's children as they are passed: the level at which they are, and how many control headers of them are passed.
 pub struct Children {
@@ -27,24 +28,24 @@ pub struct Children {
 // Puts what becomes of a record below the paragraph header.
 fn put_below(
     out: &mut [u8],
-    at: usize,
+    at: Offset,
     children: Children,
-    h: Header,
+    r: Record,
     body: &[u8],
     spot: Spot,
     value: &[u8],
-) -> usize
+) -> Offset
     requires { ⌜ Narrow (now body) × Narrow (now value) ⌝ }
-    ensures { λ r. ⌜ Puts (now (out .entry)) at (belowBytes (fieldOf (spot .ordinal) (spot .a) (spot .b)) (now (value .entry)) (children .n) (children .nth) (recordOf (h .tag) (h .level) (now (body .entry)))) r (now (out .exit)) ⌝ }
+    ensures { λ next. ⌜ Puts (now (out .entry)) (at .0) (belowBytes (fieldAt spot) (now (value .entry)) (children .n) (children .nth) (recordWith r (now (body .entry)))) (next .0) (now (out .exit)) ⌝ }
 {
-    match stands_to(children.n, h.tag, h.level) {
+    match stands_to(children.n, r.tag, r.level) {
         Side::Owned => {
-            return put_child(out, at, h, body, children.nth, spot, value);
+            return put_child(out, at, r, body, children.nth, spot, value);
         }
         Side::Beyond => {}
         Side::Passed => {}
     }
-    put_same(out, at, h, body)
+    put_same(out, at, r, body)
 }
 
 // How many control headers stand before the next record.
@@ -67,39 +68,29 @@ fn controls_passed(children: Children, tag: u32, level: u32) -> usize
 // Puts the records from `from` on: those below the paragraph header changed, all behind them in one run.
 pub fn put_behind(
     out: &mut [u8],
-    at: usize,
+    at: Offset,
     s: &[u8],
-    from: usize,
+    from: Offset,
     n: u32,
     spot: Spot,
     value: &[u8],
-) -> usize
+) -> Offset
     requires { ⌜ Narrow (now s) × Narrow (now value) ⌝ }
-    ensures { λ r. ⌜ Puts (now (out .entry)) at (behindBytes (fieldOf (spot .ordinal) (spot .a) (spot .b)) (now (value .entry)) n 0 (now (s .entry)) from (recordsIn (drop from (now (s .entry))))) r (now (out .exit)) ⌝ }
+    ensures { λ next. ⌜ Puts (now (out .entry)) (at .0) (behindBytes (fieldAt spot) (now (value .entry)) n 0 (now (s .entry)) (from .0) (recordsIn (drop (from .0) (now (s .entry))))) (next .0) (now (out .exit)) ⌝ }
 {
     let mut place = from;
     let mut p = at;
     let mut nth: usize = 0;
-    while place < s.len() {
-        match first(&s[place..], 1023) {
-            Front::Record(h) => {
-                let tag = h.tag;
-                let level = h.level;
-                let start = place + h.lead;
-                let length = h.length;
-                if level < n {
-                    return put_part(out, p, s, place, s.len());
-                }
-                let body = part(s, start, length);
-                let children = Children { n, nth };
-                p = put_below(out, p, children, h, body, spot, value);
-                nth = controls_passed(children, tag, level);
-                place = start + length;
-            }
-            Front::Refused(_) => {
-                return put_part(out, p, s, place, s.len());
-            }
+    loop {
+        let Ahead::Record(r) = record_at(s, place, 1023) else {
+            return put_rest(out, p, s, place.0);
+        };
+        if r.level < n {
+            return put_rest(out, p, s, place.0);
         }
+        let children = Children { n, nth };
+        p = put_below(out, p, children, r, body(s, r), spot, value);
+        nth = controls_passed(children, r.tag, r.level);
+        place = r.next;
     }
-    put_part(out, p, s, place, s.len())
 }

@@ -1,9 +1,5 @@
 // The sheet: its length, and its bytes into a buffer (document 01, 'Filling a field').
 mod behind;
-mod child;
-mod head;
-mod put;
-mod shapes;
 mod sheet;
 
 pub use sheet::measure;

@@ -1,66 +1,61 @@
 // The sheet of a fill: measured, and written.
 use crate::behind::put_behind;
-use crate::child::Spot;
-use crate::child::shapes_length;
-use crate::head::put_paragraph;
-use crate::put::put_part;
-use crate::shapes::Change;
-use numbers::part;
+use changing::Spot;
+use changing::put_paragraph;
+use changing::shapes_length;
+use paragraph::body;
 use paragraph::bytes;
 use paragraph::find;
-use records::Front;
+use putting::Change;
+use putting::put_part;
+use putting::put_rest;
+use records::Ahead;
 use records::Kind;
 use records::Offset;
-use records::first;
+use records::record_at;
 use text::Position;
 ghost use mathlib.Core.Path.{_≡_};
 ghost use Prim.Native.Nat.{_≤_, min};
 ghost use lib.ListN.{length, drop};
+ghost use Rattle.records.specs.Kinds as kind;
 ghost use Rattle.paragraph.specs.View.{kids, child};
 ghost use Rattle.paragraph.specs.Stream.{recordsIn};
 ghost use Rattle.filling.specs.Shapes.{shapesAfter};
 ghost use Rattle.filling.specs.Filling.{shapesOf};
-ghost use Rattle.writing.specs.Putting.{largest, Puts, Narrow};
+ghost use Rattle.putting.specs.Putting.{largest, Puts, Narrow};
+ghost use Rattle.changing.specs.Child.{fieldAt};
 ghost use Rattle.writing.specs.Sheet.{fieldOf, sheetBytes, sheetOf};
 
 // How many shapes a paragraph has after a fill; the records behind its header begin at `behind`, its children are at level n.
-fn count_shapes(s: &[u8], behind: usize, n: u32, change: Change) -> usize
+fn count_shapes(s: &[u8], behind: Offset, n: u32, change: Change) -> usize
     requires { ⌜ change .v ≤ 9223372036854775807 ⌝ }
-    ensures { λ r. ⌜ r ≡ length (shapesAfter (change .a) (change .b) (change .v) (shapesOf (child 68 (kids n (recordsIn (drop behind (now (s .entry)))))))) ⌝ }
+    ensures { λ r. ⌜ r ≡ length (shapesAfter (change .a .0) (change .b .0) (change .v) (shapesOf (child kind.shapes (kids n (recordsIn (drop (behind .0) (now (s .entry)))))))) ⌝ }
 {
     let body = bytes(s, find(s, behind, n, Kind::SHAPES, 0));
     shapes_length(body, change) / 8
 }
 
 // Puts the sheet: the stream up to the paragraph header, the paragraph changed, and all behind it.
-fn put_sheet(out: &mut [u8], s: &[u8], header: usize, spot: Spot, value: &[u8]) -> usize
+fn put_sheet(out: &mut [u8], s: &[u8], header: Offset, spot: Spot, value: &[u8]) -> Offset
     requires { ⌜ Narrow (now s) × Narrow (now value) ⌝ }
-    ensures { λ r. ⌜ Puts (now (out .entry)) 0 (sheetBytes (fieldOf (spot .ordinal) (spot .a) (spot .b)) (now (value .entry)) (now (s .entry)) header) r (now (out .exit)) ⌝ }
+    ensures { λ end. ⌜ Puts (now (out .entry)) 0 (sheetBytes (fieldAt spot) (now (value .entry)) (now (s .entry)) (header .0)) (end .0) (now (out .exit)) ⌝ }
 {
-    let p = put_part(out, 0, s, 0, header);
-    if s.len() <= header {
-        return p;
+    let p = put_part(out, Offset(0), s, 0, header.0);
+    let Ahead::Record(r) = record_at(s, header, 1023) else {
+        return put_rest(out, p, s, header.0);
+    };
+    if r.length < 22 {
+        return put_rest(out, p, s, header.0);
     }
-    match first(&s[header..], 1023) {
-        Front::Record(h) => {
-            let length = h.length;
-            let start = header + h.lead;
-            let behind = start + length;
-            if length < 22 {
-                return put_part(out, p, s, header, s.len());
-            }
-            let n = h.level + 1;
-            let change = Change {
-                a: spot.a,
-                b: spot.b,
-                v: value.len() / 2,
-            };
-            let shapes = count_shapes(s, behind, n, change);
-            let q = put_paragraph(out, p, h, part(s, start, length), shapes, change);
-            put_behind(out, q, s, behind, n, spot, value)
-        }
-        Front::Refused(_) => put_part(out, p, s, header, s.len()),
-    }
+    let n = r.level + 1;
+    let a = spot.a;
+    let b = spot.b;
+    let v = value.len() / 2;
+    let change = Change { a, b, v };
+    let behind = r.next;
+    let shapes = count_shapes(s, behind, n, change);
+    let q = put_paragraph(out, p, r, body(s, r), shapes, change);
+    put_behind(out, q, s, behind, n, spot, value)
 }
 
 // Writes the sheet to the front of the buffer and says how many bytes it has. Those that have no room are not written.
@@ -81,12 +76,8 @@ pub fn write(
     if 4294967295 < value.len() {
         return 0;
     }
-    let spot = Spot {
-        ordinal,
-        a: a.0,
-        b: b.0,
-    };
-    put_sheet(out, s, header.0, spot, value)
+    let end = put_sheet(out, s, header, Spot { ordinal, a, b }, value);
+    end.0
 }
 
 // How many bytes the sheet has: the same walk, with no room to write.

@@ -1,16 +1,16 @@
 -- An owned child is changed, all else below is put as it was. Assumes nothing.
-use Rattle.writing.proofs.BehindLaws.{below-owned, below-beyond, below-passed}
-use Rattle.writing.proofs.PuttingLaws.{puts-as}
-use Rattle.writing.specs.Sheet.{fieldOf}
 use mathlib.Core.Logic.{⊎-elim}
+use Rattle.changing.specs.Child.{fieldAt, recordWith}
+use Rattle.putting.proofs.PuttingLaws.{puts-as}
+use Rattle.writing.proofs.BehindLaws.{below-owned, below-beyond, below-passed}
 use borrow.Author.Needs.{needs}
 use Rattle.writing.proofs.behind.put_below.Statement.{statement}
 use Rattle.writing.proofs.behind.put_below.Tie as tie
 use Rattle.writing.proofs.behind.put_below.Reads as reads
 use Rattle.writing.proofs.behind.put_below.Lts as lts
 use Rattle.paragraph.proofs.stands_to.Reads as stands-to-reads
-use Rattle.writing.proofs.child.put_child.Reads as put-child-reads
-use Rattle.writing.proofs.child.put_same.Reads as put-same-reads
+use Rattle.changing.proofs.put_child.Reads as put-child-reads
+use Rattle.changing.proofs.put_same.Reads as put-same-reads
 
 stands-to-requires : tie.Need-stands-to-requires
 stands-to-requires c κs = search needs
@@ -25,7 +25,7 @@ same-length : tie.Need-same-length
 same-length c = search needs
 
 returns : tie.Need-returns
-returns c = let a = c .before .before .before .before .before .before .before .before .before .before .args in puts-as (below-owned (fieldOf (a .spot .ordinal) (a .spot .a) (a .spot .b)) (a .value .now) (a .children .n) (a .children .nth) (a .h .tag) (a .h .level) (a .body .now) (c .before .before .before .before .before .before .stands-to .ensures) (c .before .before .before .before .enum-told .given .1)) (c .before .before .put-child .ensures)
+returns c = let a = c .before .before .before .before .before .before .before .before .before .before .args in puts-as (below-owned (fieldAt (a .spot)) (a .value .now) (a .children .n) (a .children .nth) (recordWith (a .r) (a .body .now)) (c .before .before .before .before .before .before .stands-to .ensures) (c .before .before .before .before .enum-told .given .1)) (c .before .before .put-child .ensures)
 
 enum-told-2 : tie.Need-enum-told-2
 enum-told-2 c = search needs
@@ -40,9 +40,10 @@ same-length-2 : tie.Need-same-length-2
 same-length-2 c = search needs
 
 returns-2 : tie.Need-returns-2
-returns-2 c = let a = c .before .before .before .before .before .before .before .before .before .args in
-    puts-as (⊎-elim (λ w. below-beyond (fieldOf (a .spot .ordinal) (a .spot .a) (a .spot .b)) (a .value .now) (a .children .n) (a .children .nth) (a .h .tag) (a .h .level) (a .body .now) (c .before .before .before .before .before .stands-to .ensures) (w .1 .given .1))
-    (λ w. below-passed (fieldOf (a .spot .ordinal) (a .spot .a) (a .spot .b)) (a .value .now) (a .children .n) (a .children .nth) (a .h .tag) (a .h .level) (a .body .now) (c .before .before .before .before .before .stands-to .ensures) (w .1 .given .1)) (c .before .before .before .before .match .came)) (c .before .before .put-same .ensures)
+returns-2 c =
+    let a = c .before .before .before .before .before .before .before .before .before .args in
+    puts-as (⊎-elim (λ w. below-beyond (fieldAt (a .spot)) (a .value .now) (a .children .n) (a .children .nth) (recordWith (a .r) (a .body .now)) (c .before .before .before .before .before .stands-to .ensures) (w .1 .given .1))
+    (λ w. below-passed (fieldAt (a .spot)) (a .value .now) (a .children .n) (a .children .nth) (recordWith (a .r) (a .body .now)) (c .before .before .before .before .before .stands-to .ensures) (w .1 .given .1)) (c .before .before .before .before .match .came)) (c .before .before .put-same .ensures)
 
 pub put-below-spec : {M : Type 1} → statement M
 put-below-spec =
