@@ -25,7 +25,7 @@ use Rattle.filling.specs.Search as Search
 use Rattle.filling.specs.Search.{Outcome, one, refused, search, hits}
 use Rattle.filling.specs.Filling.{valueWrong, unmarked, fillable, sheet, fits, fillAnswer, fillBytes}
 use Rattle.filling.proofs.AnswerLaws.{fits-not, fits-room, fits-all}
-use Rattle.writing.specs.Putting.{Puts, largest}
+use Rattle.putting.specs.Putting.{Puts, largest}
 use Rattle.orders.specs.Calls.{afterSection, fillOf, sheetOf}
 use Rattle.search.specs.Searching.{told}
 use Rattle.fields.specs.Outcomes.{searchedOf}

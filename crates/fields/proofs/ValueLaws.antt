@@ -1,17 +1,21 @@
 -- Number 20, unit by unit. Assumes nothing.
 use Prim.Native.Nat.{ℕ, _/_, _%_, _≤_, _<_}
 use native.Mathlib.Omega.{arith}
-use mathlib.Core.Path.{_≡_, refl, sym, _∙_}
+use mathlib.Core.Path.{_≡_, refl, sym, ap, _∙_}
+use mathlib.Core.Logic.{inl, inr}
 use mathlib.Core.Bool.{Bool, true, false, _||_}
 use mathlib.Core.List.{List, [], _∷_}
 use lib.Dec.{ltb}
 use lib.ListN.{length}
+use denote.Enum.Declared.{tagOf}
+use types.Run.{OneOf}
 use borrow.Author.Tests.{lt-ltb, le-ltb, ltb-false, eq-eqb, ne-eqb}
 use Rattle.text.specs.Units.{units}
 use Rattle.text.specs.Walk.{AllOrdinary}
 use Rattle.text.specs.Answers.{controlAt}
 use Rattle.text.specs.declared.Step.{Step}
 use Rattle.text.specs.declared.Step.the-variants.{End}
+use Rattle.text.proofs.Step as step
 use Rattle.text.proofs.ControlLaws.{control-end}
 use Rattle.filling.specs.Filling.{anyBelow, valueWrong}
 
@@ -24,22 +28,30 @@ ordinary-none (u ∷ us) o = rw (le-ltb u 32 (o .0)) (ordinary-none us (o .1))
 none-ordinary : (us : List ℕ) → anyBelow 32 us ≡ false → AllOrdinary us
 unfolding anyBelow
 none-ordinary [] e = tt
-none-ordinary (u ∷ us) e = go (ltb u 32) refl e
+none-ordinary (u ∷ us) e = go (none-ordinary us) (ltb u 32) refl e
   where
-    go : (b : Bool) → ltb u 32 ≡ b → (b || anyBelow 32 us) ≡ false → (32 ≤ u) × AllOrdinary us
-    go true h q = absurd (let z : _≡_ {A = ℕ} 0 1 = cc in omega arith)
-    go false h q = (ltb-false u 32 h, none-ordinary us q)
+    go : (anyBelow 32 us ≡ false → AllOrdinary us) → (b : Bool) → ltb u 32 ≡ b → (b || anyBelow 32 us) ≡ false → (32 ≤ u) × AllOrdinary us
+    go rest true h q = absurd (let z : _≡_ {A = ℕ} 0 1 = cc in omega arith)
+    go rest false h q = (ltb-false u 32 h, rest q)
 
 -- what the walk of a value meets
 pub value-none : (us : List ℕ) → controlAt us 0 ≡ End → false ≡ anyBelow 32 us
 value-none us e = sym (ordinary-none us (control-end us 0 .0 e))
 
-pub value-some : (us : List ℕ) (x : Step) → x ≡ controlAt us 0 → (x ≡ End → ⊥) → true ≡ anyBelow 32 us
+-- a step that is not the end: as `if let .. else` leaves it
+abbrev pub NotEnd : Step → Type 0
+NotEnd x = OneOf (0 ∷ 1 ∷ []) (tagOf step.the-type x)
+
+not-end : (x : Step) → NotEnd x → x ≡ End → ⊥
+not-end x (inl z) e = let y : _≡_ {A = ℕ} 2 0 = ap (tagOf step.the-type) (sym e) ∙ z in omega arith
+not-end x (inr z) e = let y : _≡_ {A = ℕ} 2 1 = ap (tagOf step.the-type) (sym e) ∙ z in omega arith
+
+pub value-some : (us : List ℕ) (x : Step) → x ≡ controlAt us 0 → NotEnd x → true ≡ anyBelow 32 us
 value-some us x e n = go (anyBelow 32 us) refl
   where
     go : (b : Bool) → anyBelow 32 us ≡ b → true ≡ b
     go true q = refl
-    go false q = absurd (n (e ∙ control-end us 0 .1 (none-ordinary us q)))
+    go false q = absurd (not-end x n (e ∙ control-end us 0 .1 (none-ordinary us q)))
 
 module _ (v : List ℕ) where
   pub wrong-odd : length v % 2 ≡ 1 → true ≡ valueWrong v
