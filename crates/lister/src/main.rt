@@ -2,10 +2,13 @@
 // `ok` and their number; or `refused`, the number and the place.
 use libc::STDIN_FILENO;
 use libc::STDOUT_FILENO;
+use records::Ahead;
 use records::Answer;
 use records::Fault;
-use records::Front;
-use records::first;
+use records::Offset;
+use records::Record;
+use records::Refusal;
+use records::record_at;
 
 fn print(text: &[u8]) {
     io::write_all(STDOUT_FILENO, text);
@@ -22,32 +25,31 @@ fn print_last(n: u64) {
     print(b"\n");
 }
 
-fn print_record(at: usize, tag: u32, level: u32, length: usize) {
-    print_part(at as u64);
-    print_part(tag as u64);
-    print_part(level as u64);
-    print_last(length as u64);
+fn print_record(r: Record) {
+    let at = r.at;
+    print_part(at.0 as u64);
+    print_part(r.tag as u64);
+    print_part(r.level as u64);
+    print_last(r.length as u64);
 }
 
-fn print_refusal(fault: Fault, place: usize) {
+fn print_refusal(r: Refusal) {
+    let fault = r.fault;
+    let place = r.place;
     print(b"refused ");
     io::print_decimal(STDOUT_FILENO, fault.number());
     print(b" at ");
-    print_last(place as u64);
+    print_last(place.0 as u64);
 }
 
 fn print_records(s: &[u8]) {
-    let mut at: usize = 0;
-    while at < s.len() {
-        match first(&s[at..], 1023) {
-            Front::Record(h) => {
-                print_record(at, h.tag, h.level, h.length);
-                at = at + h.lead + h.length;
-            }
-            Front::Refused(_) => {
-                return;
-            }
-        }
+    let mut at = Offset(0);
+    loop {
+        let Ahead::Record(r) = record_at(s, at, 1023) else {
+            return;
+        };
+        print_record(r);
+        at = r.next;
     }
 }
 
@@ -58,11 +60,7 @@ fn list(s: &[u8]) {
             print(b"ok ");
             print_last(n as u64);
         }
-        Answer::Refused(r) => {
-            let fault = r.fault;
-            let place = r.place;
-            print_refusal(fault, place.0);
-        }
+        Answer::Refused(r) => print_refusal(r),
     }
 }
 
@@ -70,7 +68,10 @@ fn main() {
     let mut section = [0u8; 65537];
     let n = io::read_full(STDIN_FILENO, &mut section);
     if 65536 < n {
-        print_refusal(Fault::StreamTooLong, 0);
+        print_refusal(Refusal {
+            fault: Fault::StreamTooLong,
+            place: Offset(0),
+        });
         return;
     }
     list(&section[..n]);

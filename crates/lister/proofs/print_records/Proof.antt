@@ -1,7 +1,7 @@
 -- The lister's loop over the records ends. Assumes nothing.
 use borrow.Author.Needs.{needs}
 use native.Mathlib.Omega.{arith}
-use Prim.Native.Nat.{_-_, _+_, _≤_}
+use Prim.Native.Nat.{_-_}
 use mathlib.Core.Path.{sym, _∙_}
 use lib.ListN.{length}
 use Rattle.numbers.proofs.LittleLaws.{slice-bytes}
@@ -11,67 +11,43 @@ use Rattle.lister.proofs.print_records.Tie as tie
 use Rattle.lister.proofs.print_records.Reads as reads
 use Rattle.lister.proofs.print_records.Lts as lts
 use Rattle.lister.proofs.print_record.Reads as print-record-reads
-use Rattle.records.proofs.first.Reads as first-reads
+use Rattle.records.proofs.record_at.Reads as record-at-reads
 
 abbrev Inv-loop : tie.InvT-loop
-Inv-loop s at₀ at = at ≤ length s
+Inv-loop s at₀ at = Unit {0}
 
 abbrev μ-loop : tie.MeasureT-loop
-μ-loop s at₀ at = length s - at
+μ-loop s at₀ at = length s - at .0
 
 loop-holds : tie.Need-loop-holds Inv-loop μ-loop
-loop-holds c = omega arith
+loop-holds c = tt
 
-sub-first : tie.Need-sub-first Inv-loop μ-loop
-sub-first c = search needs
+record-at-requires : tie.Need-record-at-requires Inv-loop μ-loop
+record-at-requires c κs = search needs
 
-part-first-start : tie.Need-part-first-start Inv-loop μ-loop
-part-first-start c = search needs
+enum-known-r : tie.Need-enum-known-r Inv-loop μ-loop
+enum-known-r c = search needs
 
-part-first-end : tie.Need-part-first-end Inv-loop μ-loop
-part-first-end c = search needs
+-- at a record: the loop's head, and what is known of the record
+abbrev head : tie.After-r Inv-loop μ-loop → tie.At-loop Inv-loop μ-loop
+head c = c .before .before .before
 
-first-requires : tie.Need-first-requires Inv-loop μ-loop
-first-requires c κs = search needs
-
-enum-known-h : tie.Need-enum-known-h Inv-loop μ-loop
-enum-known-h c = search needs
-
--- at a record: the loop's head, the function's entry, and what is known of the header
-abbrev head : tie.After-known-told Inv-loop μ-loop → tie.At-loop Inv-loop μ-loop
-head c = c .before .before .before .before .before .before
-
-abbrev start : tie.After-known-told Inv-loop μ-loop → tie.Start Inv-loop μ-loop
-start c = head c .before .before
-
-at-header : (c : tie.After-known-told Inv-loop μ-loop) → Here (start c .args .s .now) (head c .loop .at) 1023 (c .before .h .given .0 .0)
-at-header c =
-    here _ _ _ (slice-bytes (start c .args .s .now) (head c .before .shared-slice-known .given)) (c .before .before .before .before .before .loop-test .taken) _
-    (sym (c .before .before .before .first .ensures) ∙ c .before .h .given .1)
-
-print-record-requires : tie.Need-print-record-requires Inv-loop μ-loop
-print-record-requires c κs = search needs
-
-add-at : tie.Need-add-at Inv-loop μ-loop
-add-at c = omega (arith, at-header (c .before .before))
-
-add-at-2 : tie.Need-add-at-2 Inv-loop μ-loop
-add-at-2 c = omega (arith, at-header (c .before .before .before))
-
-loop-less : tie.Need-loop-less Inv-loop μ-loop
-loop-less c = omega (arith, at-header (c .before .before .before))
-
-loop-again : tie.Need-loop-again Inv-loop μ-loop
-loop-again c = omega (arith, at-header (c .before .before .before))
-
-enum-told : tie.Need-enum-told Inv-loop μ-loop
-enum-told c = search needs
+its : (c : tie.After-r Inv-loop μ-loop) → Here (head c .before .before .args .s .now) (head c .loop .at .0) 1023 (c .r .given .0 .0)
+its c =
+    here _ _ _ (slice-bytes (head c .before .before .args .s .now) (head c .before .shared-slice-known .given)) _
+    (sym (c .before .before .record-at .ensures) ∙ c .r .given .1)
 
 returns : tie.Need-returns Inv-loop μ-loop
 returns c = search needs
 
-returns-2 : tie.Need-returns-2 Inv-loop μ-loop
-returns-2 c = search needs
+print-record-requires : tie.Need-print-record-requires Inv-loop μ-loop
+print-record-requires c κs = search needs
+
+loop-less : tie.Need-loop-less Inv-loop μ-loop
+loop-less c = let d = c .before .before .before in omega (arith, its d .next-is, its d .inside, its d .size-low)
+
+loop-again : tie.Need-loop-again Inv-loop μ-loop
+loop-again c = tt
 
 pub print-records-spec : {M : Type 1} → statement M
 print-records-spec =
@@ -80,16 +56,9 @@ print-records-spec =
     Inv-loop
     μ-loop
     loop-holds
-    sub-first
-    part-first-start
-    part-first-end
-    first-requires
-    enum-known-h
-    print-record-requires
-    add-at
-    add-at-2
-    loop-less
-    loop-again
-    enum-told
+    record-at-requires
+    enum-known-r
     returns
-    returns-2)
+    print-record-requires
+    loop-less
+    loop-again)

@@ -39,7 +39,7 @@ returns : tie.Need-returns
 returns c = text-refused _ _ _ (sym (c .before .before .before .find-field .ensures) ∙ c .before .r .given .1)
 
 returns-2 : tie.Need-returns-2
-returns-2 c = 
+returns-2 c =
     let d = c .before .before .before .before .before .before .before .before in
     let x = d .h .given .0 .0 in
     ap (λ p. T.At p (2 * (x .field .b .0 - x .field .a .0))) (c .before .before .unit-place .ensures)
