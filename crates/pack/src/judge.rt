@@ -1,6 +1,7 @@
 // Judging a table before a byte of it is written.
 use crate::put::lead;
 use records::Fault;
+use records::Offset;
 use records::bits;
 ghost use mathlib.Core.Path.{_≡_};
 ghost use Prim.Native.Nat.{_+_, _≤_, _<_, min};
@@ -46,9 +47,9 @@ pub fn wide(x: u32) -> usize
 }
 
 // A row whose level may be at most cap, over `lent` bytes: 5, 6, 4.
-fn row(tag: u32, level: u32, place: usize, length: usize, cap: u32, lent: usize) -> Verdict
-    requires { ⌜ (place < 4294967296) × (length < 4294967296) ⌝ }
-    ensures { λ r. ⌜ r ≡ verdict cap lent (rowOf tag level place length) ⌝ }
+fn row(tag: u32, level: u32, place: Offset, length: usize, cap: u32, lent: usize) -> Verdict
+    requires { ⌜ (place .0 < 4294967296) × (length < 4294967296) ⌝ }
+    ensures { λ r. ⌜ r ≡ verdict cap lent (rowOf tag level (place .0) length) ⌝ }
 {
     if tag < 16 {
         return Verdict::Faulty(Fault::TagOutside);
@@ -62,7 +63,7 @@ fn row(tag: u32, level: u32, place: usize, length: usize, cap: u32, lent: usize)
     if 1023 < level {
         return Verdict::Faulty(Fault::LevelRule);
     }
-    if lent < place + length {
+    if lent < place.0 + length {
         return Verdict::Faulty(Fault::BodyPastEnd);
     }
     Verdict::Sound
@@ -115,7 +116,14 @@ fn judge_rows(
     while i < count {
         let level = levels[i];
         let length = wide(lengths[i]);
-        match row(tags[i], level, wide(places[i]), length, cap, bytes.len()) {
+        match row(
+            tags[i],
+            level,
+            Offset(wide(places[i])),
+            length,
+            cap,
+            bytes.len(),
+        ) {
             Verdict::Sound => {
                 cap = level + 1;
                 total = grown(total, length);
