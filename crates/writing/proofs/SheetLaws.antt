@@ -1,11 +1,11 @@
 -- The sheet: the stream up to the paragraph header, the paragraph changed, and all behind it. Assumes nothing.
-use Prim.Native.Nat.{ℕ, suc, _+_, _-_, _/_, _≤_, _<_, min}
+use Prim.Native.Nat.{ℕ, suc, _+_, _/_, _≤_, _<_, min}
 use native.Mathlib.Omega.{arith}
 use mathlib.Core.Path.{_≡_, refl, sym, ap, ap₂, _∙_}
 use mathlib.Core.Option.{Option, none, some}
-use mathlib.Core.List.{List, [], _∷_, _++_, append-nil}
+use mathlib.Core.List.{List, [], _∷_, _++_}
 use borrow.Author.Tests.{lt-ltb, le-ltb}
-use lib.ListN.{length, take, drop, length-take, length-drop, drop-of-length-le}
+use lib.ListN.{length, take, drop}
 use Rattle.numbers.specs.Little.{Bytes}
 use Rattle.records.specs.Kinds as kind
 use Rattle.records.specs.Records.{Rec, encodeOne, size}
@@ -24,7 +24,7 @@ use Rattle.filling.specs.Shapes.{packed, shapesIn, shapesAfter}
 use Rattle.filling.specs.Filling.{newHead, filling, shapesOf}
 use Rattle.putting.specs.Putting.{largest, Puts}
 use Rattle.changing.specs.Child.{recordWith}
-use Rattle.writing.specs.Sheet.{fieldOf, behindBytes, paragraphBytes, sheetBytes, sheetOf}
+use Rattle.writing.specs.Sheet.{behindBytes, paragraphBytes, sheetBytes, sheetOf}
 use Rattle.putting.proofs.PuttingLaws.{puts-as, puts-then}
 use Rattle.changing.proofs.ChildLaws.{shapes-number}
 use Rattle.writing.proofs.BehindLaws.{rec-is}
