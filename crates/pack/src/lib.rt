@@ -5,6 +5,7 @@ mod table;
 
 pub use judge::Index;
 pub use judge::Packed;
+pub use put::lead;
 pub use put::put_header;
 pub use put::put_record;
 pub use table::pack;

@@ -1,7 +1,7 @@
 -- One pass over a paragraph's children: what was found so far, and what the rest adds. Assumes nothing.
 use Prim.Native.Nat.{ℕ, suc, _+_, _≤_}
 use native.Mathlib.Omega.{arith}
-use mathlib.Core.Path.{_≡_, refl, sym, ap, _∙_}
+use mathlib.Core.Path.{_≡_, refl, sym, ap, _∙_, subst}
 use mathlib.Core.Bool.{Bool, true, false, cond}
 use mathlib.Core.List.{List, [], _∷_}
 use lib.Dec.{eqb}
@@ -41,7 +41,7 @@ abbrev pub nothing : Parts
 nothing = record { text = P.Nothing; shapes = P.Nothing; layout = P.Nothing; marks = P.Nothing; controls = 0 }
 
 -- parts, one by one
-pub same-parts : {t t′ s s′ l l′ m m′ : Found} {c c′ : ℕ} → t ≡ t′ → s ≡ s′ → l ≡ l′ → m ≡ m′ → c ≡ c′
+same-parts : {t t′ s s′ l l′ m m′ : Found} {c c′ : ℕ} → t ≡ t′ → s ≡ s′ → l ≡ l′ → m ≡ m′ → c ≡ c′
     → _≡_ {A = Parts} (record { text = t; shapes = s; layout = l; marks = m; controls = c }) (record { text = t′; shapes = s′; layout = l′; marks = m′; controls = c′ })
 same-parts a b c d e = rw (a, b, c, d, e)
 
@@ -141,8 +141,8 @@ module _ {s : List ℕ} {n from at : ℕ} {a : Parts} {r : Record} (k : Gatherin
         rest = here ∙ ap (joined a) (parts-passed n at (d .rec) (recordsIn (drop (r .next .0) s)) (sym to ∙ e)) ∙ behind a;
       }
 
-  pub gather-owned : side-of ≡ S.Owned → Gathering s n from (taken a r) (r .next .0)
-  gather-owned e =
+  owned-with : side-of ≡ S.Owned → Gathering s n from (taken a r) (r .next .0)
+  owned-with e =
       record {
         few = omega (arith, k .few, at-most a r, d .next-is, d .least);
         rest =
@@ -150,6 +150,13 @@ module _ {s : List ℕ} {n from at : ℕ} {a : Parts} {r : Record} (k : Gatherin
             ∙ behind (taken a (recordAt at (d .rec)))
             ∙ ap (λ (p : Record). joined (taken a p) (partsIn n (r .next .0) (recordsIn (drop (r .next .0) s)))) (sym (d .is));
       }
+
+  pub gather-owned : {t h l m : Found} {c : ℕ} → side-of ≡ S.Owned
+      → t ≡ takenAs (a .text) (eqb (r .tag) 67) r → h ≡ takenAs (a .shapes) (eqb (r .tag) 68) r → l ≡ takenAs (a .layout) (eqb (r .tag) 69) r
+      → m ≡ takenAs (a .marks) (eqb (r .tag) 70) r → c ≡ a .controls + cond (eqb (r .tag) 71) 1 0
+      → Gathering s n from (record { text = t; shapes = h; layout = l; marks = m; controls = c }) (r .next .0)
+  unfolding taken
+  gather-owned e ts hs ls ms cs = subst (λ (p : Parts). Gathering s n from p (r .next .0)) (sym (same-parts ts hs ls ms cs)) (owned-with e)
 
 pub gather-none : {s : List ℕ} {n from at : ℕ} {a : Parts} → Gathering s n from a at → recordsIn (drop at s) ≡ []
     → a ≡ partsIn n from (recordsIn (drop from s))

@@ -9,11 +9,11 @@ use records::Record;
 use records::record_at;
 ghost use mathlib.Core.Path.{_≡_};
 ghost use mathlib.Core.Bool.{cond};
-ghost use Prim.Native.Nat.{_≤_, _<_};
+ghost use Prim.Native.Nat.{_≤_};
 ghost use lib.ListN.{drop};
 ghost use Rattle.paragraph.specs.Stream.{recordsIn};
 ghost use Rattle.paragraph.specs.Rules.{bytesIn};
-ghost use Rattle.paragraph.specs.Places.{sought, foundIn, takenAs, taken, partsIn, bodyOf, bodyFound};
+ghost use Rattle.paragraph.specs.Places.{sought, foundIn, takenAs, partsIn, bodyOf, bodyFound};
 
 pub enum Found {
     At(Record),
@@ -88,51 +88,41 @@ fn one_if(is: bool) -> usize
     if is { 1 } else { 0 }
 }
 
-// The parts with one more child, by its tag.
-fn take_child(parts: Parts, p: Record) -> Parts
-    requires { ⌜ parts .controls < 18446744073709551615 ⌝ }
-    ensures { λ r. ⌜ r ≡ taken parts p ⌝ }
-{
-    let tag = p.tag;
-    let text = parts.text;
-    let shapes = parts.shapes;
-    let layout = parts.layout;
-    let marks = parts.marks;
-    Parts {
-        text: take_as(text, tag == Kind::TEXT, p),
-        shapes: take_as(shapes, tag == Kind::SHAPES, p),
-        layout: take_as(layout, tag == Kind::LAYOUT, p),
-        marks: take_as(marks, tag == Kind::MARKS, p),
-        controls: parts.controls + one_if(tag == Kind::CONTROL_HEADER),
-    }
-}
-
-// All of them in one pass over what stands below the paragraph.
+// All of them in one pass over what stands below the paragraph. They are kept apart until the end: a pass writes only what it finds.
 pub fn find_parts(s: &[u8], from: Offset, n: u32) -> Parts
     ensures { λ r. ⌜ r ≡ partsIn n (from .0) (recordsIn (drop (from .0) (now (s .entry)))) ⌝ }
 {
-    let mut parts = Parts {
-        text: Found::Nothing,
-        shapes: Found::Nothing,
-        layout: Found::Nothing,
-        marks: Found::Nothing,
-        controls: 0,
-    };
+    let mut text = Found::Nothing;
+    let mut shapes = Found::Nothing;
+    let mut layout = Found::Nothing;
+    let mut marks = Found::Nothing;
+    let mut controls: usize = 0;
     let mut at = from;
     loop {
         let Ahead::Record(r) = record_at(s, at, 1023) else {
-            return parts;
+            break;
         };
         match stands_to(n, r.tag, r.level) {
             Side::Beyond => {
-                return parts;
+                break;
             }
             Side::Owned => {
-                parts = take_child(parts, r);
+                text = take_as(text, r.tag == Kind::TEXT, r);
+                shapes = take_as(shapes, r.tag == Kind::SHAPES, r);
+                layout = take_as(layout, r.tag == Kind::LAYOUT, r);
+                marks = take_as(marks, r.tag == Kind::MARKS, r);
+                controls = controls + one_if(r.tag == Kind::CONTROL_HEADER);
             }
             Side::Passed => {}
         }
         at = r.next;
+    }
+    Parts {
+        text,
+        shapes,
+        layout,
+        marks,
+        controls,
     }
 }
 

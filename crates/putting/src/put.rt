@@ -2,13 +2,14 @@
 use numbers::part;
 use numbers::put_all;
 use numbers::put32;
+use pack::lead;
 use pack::put_header;
 use records::Offset;
 ghost use mathlib.Core.Path.{_≡_};
 ghost use Prim.Native.Nat.{_+_, min};
 ghost use lib.ListN.{length, take, drop};
 ghost use Rattle.numbers.specs.Little.{bytesOf};
-ghost use Rattle.records.specs.Records.{leadOf, headerOf};
+ghost use Rattle.records.specs.Records.{headerOf};
 ghost use Rattle.putting.specs.Putting.{largest, Puts};
 
 // The place behind n bytes, or the largest number that there is.
@@ -59,13 +60,6 @@ pub fn put_low(out: &mut [u8], at: Offset, w: usize, n: usize) -> Offset
     let mut four = [0u8; 4];
     put32(&mut four, (w % 4294967296) as u32);
     put_part(out, at, &four, 0, n)
-}
-
-// How many bytes a header takes before a body of this length.
-fn lead(length: usize) -> usize
-    ensures { λ r. ⌜ r ≡ leadOf length ⌝ }
-{
-    if length < 4095 { 4 } else { 8 }
 }
 
 // Puts the header of a body of this length.

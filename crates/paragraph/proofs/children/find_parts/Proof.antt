@@ -1,8 +1,8 @@
 -- One pass finds what `partsIn` has. Assumes nothing.
 use borrow.Author.Needs.{needs}
 use native.Mathlib.Omega.{arith}
-use Prim.Native.Nat.{_-_}
-use mathlib.Core.Path.{refl, sym, _∙_}
+use Prim.Native.Nat.{ℕ, _+_, _-_}
+use mathlib.Core.Path.{sym, ap, _∙_}
 use mathlib.Core.Logic.{⊎-elim}
 use lib.ListN.{length}
 use Rattle.numbers.proofs.LittleLaws.{slice-bytes}
@@ -12,15 +12,16 @@ use Rattle.paragraph.proofs.children.find_parts.Statement.{statement}
 use Rattle.paragraph.proofs.children.find_parts.Tie as tie
 use Rattle.paragraph.proofs.children.find_parts.Reads as reads
 use Rattle.paragraph.proofs.children.find_parts.Lts as lts
-use Rattle.paragraph.proofs.children.take_child.Reads as take-child-reads
+use Rattle.paragraph.proofs.children.one_if.Reads as one-if-reads
+use Rattle.paragraph.proofs.children.take_as.Reads as take-as-reads
 use Rattle.paragraph.proofs.view.stands_to.Reads as stands-to-reads
 use Rattle.records.proofs.record_at.Reads as record-at-reads
 
 abbrev Inv-loop : tie.InvT-loop
-Inv-loop s n parts₀ at₀ parts at = Gathering s n (at₀ .0) parts (at .0)
+Inv-loop s n text₀ shapes₀ layout₀ marks₀ controls₀ at₀ text shapes layout marks controls at = Gathering s n (at₀ .0) (record { text = text; shapes = shapes; layout = layout; marks = marks; controls = controls }) (at .0)
 
 abbrev μ-loop : tie.MeasureT-loop
-μ-loop s n parts₀ at₀ parts at = length s - at .0
+μ-loop s n text₀ shapes₀ layout₀ marks₀ controls₀ at₀ text shapes layout marks controls at = length s - at .0
 
 loop-holds : tie.Need-loop-holds Inv-loop μ-loop
 loop-holds c = gather-start _ _ _
@@ -30,9 +31,6 @@ record-at-requires c κs = search needs
 
 enum-known-r : tie.Need-enum-known-r Inv-loop μ-loop
 enum-known-r c = search needs
-
-returns : tie.Need-returns Inv-loop μ-loop
-returns c = gather-none (c .before .before .loop .inv) (none-at _ _ _ (c .before .record-at .ensures) (c .match .keys2))
 
 -- at a record: the loop's head, and what is known of the record
 abbrev head : tie.After-r Inv-loop μ-loop → tie.At-loop Inv-loop μ-loop
@@ -49,14 +47,26 @@ stands-to-requires c κs = search needs
 enum-told : tie.Need-enum-told Inv-loop μ-loop
 enum-told c = search needs
 
-returns-2 : tie.Need-returns-2 Inv-loop μ-loop
-returns-2 c = let d = c .before .before .before .before in gather-beyond (head d .loop .inv) (its d) (sym (c .before .before .stands-to .ensures) ∙ c .enum-told .given .1)
-
 enum-told-2 : tie.Need-enum-told-2 Inv-loop μ-loop
 enum-told-2 c = search needs
 
-take-child-requires : tie.Need-take-child-requires Inv-loop μ-loop
-take-child-requires c κs = let d = c .before .before .before .before in omega (arith, head d .loop .inv .few, its d .stands .inside)
+take-as-requires : tie.Need-take-as-requires Inv-loop μ-loop
+take-as-requires c κs = search needs
+
+take-as-requires-2 : tie.Need-take-as-requires-2 Inv-loop μ-loop
+take-as-requires-2 c κs = search needs
+
+take-as-requires-3 : tie.Need-take-as-requires-3 Inv-loop μ-loop
+take-as-requires-3 c κs = search needs
+
+take-as-requires-4 : tie.Need-take-as-requires-4 Inv-loop μ-loop
+take-as-requires-4 c κs = search needs
+
+one-if-requires : tie.Need-one-if-requires Inv-loop μ-loop
+one-if-requires c κs = search needs
+
+add-controls : tie.Need-add-controls Inv-loop μ-loop
+add-controls c = let d = c .before .before .before .before .before .before .before .before .before .before .before .before .before .before in omega (arith, c .one-if .ensures .1, head d .loop .inv .few, its d .stands .inside)
 
 enum-told-3 : tie.Need-enum-told-3 Inv-loop μ-loop
 enum-told-3 c = search needs
@@ -67,8 +77,17 @@ loop-less c = let d = c .before .before .before .before in omega (arith, its d .
 loop-again : tie.Need-loop-again Inv-loop μ-loop
 loop-again c =
     let d = c .before .before .before .before in
-    ⊎-elim (λ w. rw (w .3, w .2 .ensures) (gather-owned (head d .loop .inv) (its d) (sym (c .before .before .stands-to .ensures) ∙ w .1 .given .1)))
-    (λ w. rw (w .2) (gather-passed (head d .loop .inv) (its d) (sym (c .before .before .stands-to .ensures) ∙ w .1 .given .1))) (c .before .match2 .came)
+    ⊎-elim
+    (λ w.
+    gather-owned (head d .loop .inv) (its d) (sym (c .before .before .stands-to .ensures) ∙ w .1 .given .1) (w .12 ∙ w .3 .ensures) (w .13 ∙ w .5 .ensures) (w .14 ∙ w .7 .ensures)
+    (w .15 ∙ w .9 .ensures) (w .16 ∙ ap (λ (n : ℕ). head d .loop .controls + n) (w .11 .ensures .0)))
+    (λ w. rw (w .2, w .3, w .4, w .5, w .6) (gather-passed (head d .loop .inv) (its d) (sym (c .before .before .stands-to .ensures) ∙ w .1 .given .1))) (c .before .match2 .came)
+
+returns : tie.Need-returns Inv-loop μ-loop
+returns c = gather-none (c .before .before .loop .inv) (none-at _ _ _ (c .before .record-at .ensures) (c .match .keys2))
+
+returns-2 : tie.Need-returns-2 Inv-loop μ-loop
+returns-2 c = let d = c .before .before .before .before in gather-beyond (head d .loop .inv) (its d) (sym (c .before .before .stands-to .ensures) ∙ c .enum-told .given .1)
 
 pub find-parts-spec : {M : Type 1} → statement M
 find-parts-spec =
@@ -79,12 +98,17 @@ find-parts-spec =
     loop-holds
     record-at-requires
     enum-known-r
-    returns
     stands-to-requires
     enum-told
-    returns-2
     enum-told-2
-    take-child-requires
+    take-as-requires
+    take-as-requires-2
+    take-as-requires-3
+    take-as-requires-4
+    one-if-requires
+    add-controls
     enum-told-3
     loop-less
-    loop-again)
+    loop-again
+    returns
+    returns-2)

@@ -7,7 +7,7 @@ use Rattle.putting.proofs.put.put_head.Tie as tie
 use Rattle.putting.proofs.put.put_head.Reads as reads
 use Rattle.putting.proofs.put.put_head.Lts as lts
 use Rattle.pack.proofs.put_header.Reads as put-header-reads
-use Rattle.putting.proofs.put.lead.Reads as lead-reads
+use Rattle.pack.proofs.lead.Reads as lead-reads
 use Rattle.putting.proofs.put.put_part.Reads as put-part-reads
 
 slice-aggregate-put-header : tie.Need-slice-aggregate-put-header
@@ -29,7 +29,7 @@ same-length : tie.Need-same-length
 same-length c = search needs
 
 returns : tie.Need-returns
-returns c = puts-as (head-of _ _ _ _ _ _ refl (c .before .before .before .lead .ensures) (c .before .before .before .before .before .before .before .put-header .ensures)) (c .before .before .put-part .ensures)
+returns c = puts-as (head-of _ _ _ _ _ _ refl (c .before .before .before .lead .ensures .0) (c .before .before .before .before .before .before .before .put-header .ensures)) (c .before .before .put-part .ensures)
 
 pub put-head-spec : {M : Type 1} → statement M
 put-head-spec =
