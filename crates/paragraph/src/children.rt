@@ -8,8 +8,7 @@ use records::Offset;
 use records::Record;
 use records::record_at;
 ghost use mathlib.Core.Path.{_≡_};
-ghost use mathlib.Core.Bool.{cond};
-ghost use Prim.Native.Nat.{_≤_};
+ghost use mathlib.Core.Bool.{true};
 ghost use lib.ListN.{drop};
 ghost use Rattle.paragraph.specs.Stream.{recordsIn};
 ghost use Rattle.paragraph.specs.Rules.{bytesIn};
@@ -72,20 +71,14 @@ pub struct Parts {
     pub controls: usize,
 }
 
-// What was found before, or this record where it is the one sought.
-fn take_as(f: Found, is: bool, p: Record) -> Found
-    ensures { λ r. ⌜ r ≡ takenAs f is p ⌝ }
+// What was found before, or else this record.
+fn first_of(f: Found, r: Record) -> Found
+    ensures { λ x. ⌜ x ≡ takenAs f true r ⌝ }
 {
-    match f {
-        Found::At(q) => Found::At(q),
-        Found::Nothing => { if is { Found::At(p) } else { Found::Nothing } }
+    if let Found::Nothing = f {
+        return Found::At(r);
     }
-}
-
-fn one_if(is: bool) -> usize
-    ensures { λ r. ⌜ (r ≡ cond is 1 0) × (r ≤ 1) ⌝ }
-{
-    if is { 1 } else { 0 }
+    f
 }
 
 // All of them in one pass over what stands below the paragraph. They are kept apart until the end: a pass writes only what it finds.
@@ -102,18 +95,17 @@ pub fn find_parts(s: &[u8], from: Offset, n: u32) -> Parts
         let Ahead::Record(r) = record_at(s, at, 1023) else {
             break;
         };
-        match stands_to(n, r.tag, r.level) {
-            Side::Beyond => {
-                break;
-            }
-            Side::Owned => {
-                text = take_as(text, r.tag == Kind::TEXT, r);
-                shapes = take_as(shapes, r.tag == Kind::SHAPES, r);
-                layout = take_as(layout, r.tag == Kind::LAYOUT, r);
-                marks = take_as(marks, r.tag == Kind::MARKS, r);
-                controls = controls + one_if(r.tag == Kind::CONTROL_HEADER);
-            }
+        let tag = r.tag;
+        match stands_to(n, tag, r.level) {
+            Side::Beyond => break,
             Side::Passed => {}
+            Side::Owned => match tag {
+                Kind::TEXT => text = first_of(text, r),
+                Kind::SHAPES => shapes = first_of(shapes, r),
+                Kind::LAYOUT => layout = first_of(layout, r),
+                Kind::MARKS => marks = first_of(marks, r),
+                _ => controls = controls + 1,
+            },
         }
         at = r.next;
     }

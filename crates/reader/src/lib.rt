@@ -91,9 +91,10 @@ pub fn judge(text: &[u8]) -> Judged
     if text.len() < 2 {
         return Judged::Broken(Position(0));
     }
+    let n = text.len() / 2;
     let mut at = Position(0);
     let mut count = 0;
-    loop {
+    while at.0 < n {
         match next_control(text, at) {
             Step::Stands { at: _, what, next } => {
                 count += extended(what);
@@ -103,13 +104,9 @@ pub fn judge(text: &[u8]) -> Judged
                 return Judged::Broken(p);
             }
             Step::End => {
-                break;
+                return Judged::Broken(Position(n));
             }
         }
-    }
-    let n = text.len() / 2;
-    if at.0 < n {
-        return Judged::Broken(Position(n));
     }
     Judged::Sound(count)
 }

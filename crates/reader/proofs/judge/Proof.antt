@@ -1,3 +1,4 @@
+-- A whole text is judged as `judged` has it. Assumes nothing.
 use Prim.Native.Nat.{_-_}
 use native.Mathlib.Omega.{arith}
 use mathlib.Core.Path.{sym, ap, _∙_}
@@ -18,14 +19,14 @@ use Rattle.reader.proofs.extended.Reads as extended-reads
 use Rattle.reader.proofs.next_control.Reads as next-control-reads
 
 abbrev Inv-loop : tie.InvT-loop
-Inv-loop text at₀ count₀ at count = Walked (units text) (at .0) count
+Inv-loop text n at₀ count₀ at count = Walked (units text) (at .0) count
 
 abbrev μ-loop : tie.MeasureT-loop
-μ-loop text at₀ count₀ at count = length (units text) - at .0
+μ-loop text n at₀ count₀ at count = length (units text) - at .0
 
 -- the step that was made
 abbrev turn : tie.After-what Inv-loop μ-loop → tie.At-loop Inv-loop μ-loop
-turn c = c .before .before .before
+turn c = c .before .before .before .before .before
 
 reached : (c : tie.After-what Inv-loop μ-loop)
     → Reached
@@ -52,20 +53,19 @@ extended-requires : tie.Need-extended-requires Inv-loop μ-loop
 extended-requires c κs = search needs
 
 add-count : tie.Need-add-count Inv-loop μ-loop
-add-count c =
-    omega (arith, walked-on (turn (c .before .before) .loop .inv) (reached (c .before .before)) .few, walked-on (turn (c .before .before) .loop .inv) (reached (c .before .before)) .within, c .extended .ensures, length-units (turn (c .before .before) .before .before .before .args .text .now))
+add-count c = let d = c .before .before in omega (arith, walked-on (turn d .loop .inv) (reached d) .few, walked-on (turn d .loop .inv) (reached d) .within, c .extended .ensures, length-units (turn d .before .before .before .args .text .now))
 
 loop-less : tie.Need-loop-less Inv-loop μ-loop
-loop-less c = omega (arith, reached (c .before .before .before) .from, reached (c .before .before .before) .onward .rises, reached (c .before .before .before) .onward .fits)
+loop-less c = let d = c .before .before .before in omega (arith, reached d .from, reached d .onward .rises, reached d .onward .fits)
 
 loop-again : tie.Need-loop-again Inv-loop μ-loop
-loop-again c = rw (c .before .extended .ensures) (walked-on (turn (c .before .before .before) .loop .inv) (reached (c .before .before .before)))
+loop-again c = let d = c .before .before .before in rw (c .before .extended .ensures) (walked-on (turn d .loop .inv) (reached d))
 
 enum-known-p : tie.Need-enum-known-p Inv-loop μ-loop
 enum-known-p c = search needs
 
 returns-2 : tie.Need-returns-2 Inv-loop μ-loop
-returns-2 c = walked-broken (c .before .before .before .before .loop .inv) (control-broken _ _ _ (sym (c .before .before .before .next-control .ensures) ∙ c .before .p .given .1))
+returns-2 c = walked-broken (c .before .before .before .before .before .before .loop .inv) (control-broken _ _ _ (sym (c .before .before .before .next-control .ensures) ∙ c .before .p .given .1))
 
 enum-told : tie.Need-enum-told Inv-loop μ-loop
 enum-told c = search needs
@@ -73,10 +73,10 @@ enum-told c = search needs
 returns-3 : tie.Need-returns-3 Inv-loop μ-loop
 returns-3 c =
     ap (λ n. judgement.Broken (place n)) (sym (length-units _))
-    ∙ walked-broken (c .before .before .before .before .before .loop .inv) (control-lacking _ _ (sym (c .before .before .before .before .next-control .ensures) ∙ c .before .before .enum-told .given .1) (rw length-units (c .if2 .taken)))
+    ∙ walked-broken (c .before .before .before .before .before .loop .inv) (control-lacking _ _ (sym (c .before .before .next-control .ensures) ∙ c .enum-told .given .1) (rw length-units (c .before .before .before .if2 .taken)))
 
 returns-4 : tie.Need-returns-4 Inv-loop μ-loop
-returns-4 c = walked-end (c .before .before .before .before .before .loop .inv) (past-ended _ _ (rw length-units (c .if2 .left)))
+returns-4 c = walked-end (c .before .before .loop .inv) (past-ended _ _ (rw length-units (c .if2 .left)))
 
 pub judge-spec : {M : Type 1} → statement M
 judge-spec =

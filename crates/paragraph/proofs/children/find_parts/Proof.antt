@@ -7,13 +7,12 @@ use mathlib.Core.Logic.{⊎-elim}
 use lib.ListN.{length}
 use Rattle.numbers.proofs.LittleLaws.{slice-bytes}
 use Rattle.paragraph.proofs.StreamLaws.{Read, read-at, none-at}
-use Rattle.paragraph.proofs.PartLaws.{Gathering, gather-start, gather-beyond, gather-owned, gather-passed, gather-none}
+use Rattle.paragraph.proofs.PartLaws.{Gathering, gather-start, gather-beyond, gather-text, gather-shapes, gather-layout, gather-marks, gather-control, gather-passed, gather-none}
 use Rattle.paragraph.proofs.children.find_parts.Statement.{statement}
 use Rattle.paragraph.proofs.children.find_parts.Tie as tie
 use Rattle.paragraph.proofs.children.find_parts.Reads as reads
 use Rattle.paragraph.proofs.children.find_parts.Lts as lts
-use Rattle.paragraph.proofs.children.one_if.Reads as one-if-reads
-use Rattle.paragraph.proofs.children.take_as.Reads as take-as-reads
+use Rattle.paragraph.proofs.children.first_of.Reads as first-of-reads
 use Rattle.paragraph.proofs.view.stands_to.Reads as stands-to-reads
 use Rattle.records.proofs.record_at.Reads as record-at-reads
 
@@ -50,26 +49,23 @@ enum-told c = search needs
 enum-told-2 : tie.Need-enum-told-2 Inv-loop μ-loop
 enum-told-2 c = search needs
 
-take-as-requires : tie.Need-take-as-requires Inv-loop μ-loop
-take-as-requires c κs = search needs
-
-take-as-requires-2 : tie.Need-take-as-requires-2 Inv-loop μ-loop
-take-as-requires-2 c κs = search needs
-
-take-as-requires-3 : tie.Need-take-as-requires-3 Inv-loop μ-loop
-take-as-requires-3 c κs = search needs
-
-take-as-requires-4 : tie.Need-take-as-requires-4 Inv-loop μ-loop
-take-as-requires-4 c κs = search needs
-
-one-if-requires : tie.Need-one-if-requires Inv-loop μ-loop
-one-if-requires c κs = search needs
-
-add-controls : tie.Need-add-controls Inv-loop μ-loop
-add-controls c = let d = c .before .before .before .before .before .before .before .before .before .before .before .before .before .before in omega (arith, c .one-if .ensures .1, head d .loop .inv .few, its d .stands .inside)
-
 enum-told-3 : tie.Need-enum-told-3 Inv-loop μ-loop
 enum-told-3 c = search needs
+
+first-of-requires : tie.Need-first-of-requires Inv-loop μ-loop
+first-of-requires c κs = search needs
+
+first-of-requires-2 : tie.Need-first-of-requires-2 Inv-loop μ-loop
+first-of-requires-2 c κs = search needs
+
+first-of-requires-3 : tie.Need-first-of-requires-3 Inv-loop μ-loop
+first-of-requires-3 c κs = search needs
+
+first-of-requires-4 : tie.Need-first-of-requires-4 Inv-loop μ-loop
+first-of-requires-4 c κs = search needs
+
+add-controls : tie.Need-add-controls Inv-loop μ-loop
+add-controls c = let d = c .before .before .before .before .before in omega (arith, head d .loop .inv .few, its d .stands .inside)
 
 loop-less : tie.Need-loop-less Inv-loop μ-loop
 loop-less c = let d = c .before .before .before .before in omega (arith, its d .next-is, its d .stands .inside, its d .least)
@@ -77,11 +73,15 @@ loop-less c = let d = c .before .before .before .before in omega (arith, its d .
 loop-again : tie.Need-loop-again Inv-loop μ-loop
 loop-again c =
     let d = c .before .before .before .before in
-    ⊎-elim
+    let stood = c .before .before .stands-to .ensures in
+    ⊎-elim (λ w. rw (w .2, w .3, w .4, w .5, w .6) (gather-passed (head d .loop .inv) (its d) (sym stood ∙ w .1 .given .1)))
+    (⊎-elim (λ w. rw (w .4, w .5, w .6, w .7, w .8) (gather-text (head d .loop .inv) (its d) (sym stood ∙ w .1 .given .1) (w .2 .keys1) (w .3 .ensures)))
+    (⊎-elim (λ w. rw (w .4, w .5, w .6, w .7, w .8) (gather-shapes (head d .loop .inv) (its d) (sym stood ∙ w .1 .given .1) (w .2 .keys2) (w .3 .ensures)))
+    (⊎-elim (λ w. rw (w .4, w .5, w .6, w .7, w .8) (gather-layout (head d .loop .inv) (its d) (sym stood ∙ w .1 .given .1) (w .2 .keys3) (w .3 .ensures)))
+    (⊎-elim (λ w. rw (w .4, w .5, w .6, w .7, w .8) (gather-marks (head d .loop .inv) (its d) (sym stood ∙ w .1 .given .1) (w .2 .keys4) (w .3 .ensures)))
     (λ w.
-    gather-owned (head d .loop .inv) (its d) (sym (c .before .before .stands-to .ensures) ∙ w .1 .given .1) (w .12 ∙ w .3 .ensures) (w .13 ∙ w .5 .ensures) (w .14 ∙ w .7 .ensures)
-    (w .15 ∙ w .9 .ensures) (w .16 ∙ ap (λ (n : ℕ). head d .loop .controls + n) (w .11 .ensures .0)))
-    (λ w. rw (w .2, w .3, w .4, w .5, w .6) (gather-passed (head d .loop .inv) (its d) (sym (c .before .before .stands-to .ensures) ∙ w .1 .given .1))) (c .before .match2 .came)
+    let n = w .2 .rest in
+    rw (w .3, w .4, w .5, w .6, w .7) (gather-control (head d .loop .inv) (its d) (sym stood ∙ w .1 .given .1) (n .0 .0 .0 .1) (n .0 .0 .1) (n .0 .1) (n .1))))))) (c .before .match2 .came)
 
 returns : tie.Need-returns Inv-loop μ-loop
 returns c = gather-none (c .before .before .loop .inv) (none-at _ _ _ (c .before .record-at .ensures) (c .match .keys2))
@@ -101,13 +101,12 @@ find-parts-spec =
     stands-to-requires
     enum-told
     enum-told-2
-    take-as-requires
-    take-as-requires-2
-    take-as-requires-3
-    take-as-requires-4
-    one-if-requires
-    add-controls
     enum-told-3
+    first-of-requires
+    first-of-requires-2
+    first-of-requires-3
+    first-of-requires-4
+    add-controls
     loop-less
     loop-again
     returns
