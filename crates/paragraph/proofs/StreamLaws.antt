@@ -8,15 +8,15 @@ use mathlib.Core.List.{List, [], _∷_, _++_}
 use lib.Dec.{ltb}
 use borrow.Author.Tests.{ltb-true, ltb-false}
 use lib.ListN.{length, take, drop, length-drop, length-append}
-use lib.Seq.{drop-drop, drop-at, take-add, length-take-le}
+use lib.Seq.{drop-drop, drop-at}
 use Rattle.numbers.specs.Little.{Bytes}
-use Rattle.records.specs.Records.{Rec, leadOf, headerOf, encodeOne, encode, size, Obeys, Lawful}
+use Rattle.records.specs.Records.{Rec, leadOf, encodeOne, encode, size, Obeys, Lawful}
 use Rattle.records.specs.Reading.{Stands, whole, fault, standsAt, recordAt, aheadBy, aheadOf, readFrom, readAll}
 use Rattle.records.specs.declared.fault.Fault.{Fault}
 use Rattle.records.specs.declared.header.Record.{Record}
 use Rattle.records.specs.declared.header.Ahead.{Ahead}
 use Rattle.records.specs.declared.header.Ahead.the-variants as N
-use Rattle.records.proofs.ReadingLaws.{Here, here, NoRecord, no-record, Found, found, size-least, length-headerOf, length-encodeOne, stands-encode, encode-read}
+use Rattle.records.proofs.ReadingLaws.{Here, here, NoRecord, no-record, Found, found, size-least, length-encodeOne, stands-encode, encode-read, body-behind}
 use Rattle.numbers.proofs.LittleLaws.{bytes-drop, part-rest}
 use Rattle.paragraph.specs.Stream.{within, recordsIn}
 
@@ -49,17 +49,6 @@ pub none-left : (s : List ℕ) (at : ℕ) → length s ≤ at → recordsIn (dro
 none-left s at h = in-end (drop at s) (omega (arith, length-drop at s))
 
 -- ---- a record at a place
-
--- the body is behind the lead
-body-behind : (r : Rec) (x : List ℕ) → encodeOne r ≡ take (size r) x → size r ≤ length x
-    → take (length (r .body)) (drop (leadOf (length (r .body))) x) ≡ r .body
-unfolding encodeOne size
-body-behind r x e h =
-    let lead = leadOf (length (r .body)) in
-    let n = length (r .body) in
-    sym (drop-at (take lead x) (take n (drop lead x)) lead (length-take-le lead x (omega arith)))
-    ∙ ap (drop lead) (sym (take-add lead n x) ∙ sym e)
-    ∙ drop-at (headerOf (r .tag) (r .level) n) (r .body) lead (length-headerOf (r .tag) (r .level) n)
 
 -- r stands at `at`, and the records go on behind it
 pub record Stood (s : List ℕ) (at : ℕ) (r : Rec) : Type 0 where
@@ -130,7 +119,7 @@ read-at s at bs r e =
       next-is = d .next-is;
       body-end = d .body-end;
       least = d .size-low;
-      body-is = ap₂ (λ (n b : ℕ). take n (drop b s)) (d .length-is) (d .body-is) ∙ k .body-is;
+      body-is = d .body-there;
       records = k .records ∙ ap (λ (i : ℕ). d .rec ∷ recordsIn (drop i s)) (sym (d .next-is));
       stands = k;
     }

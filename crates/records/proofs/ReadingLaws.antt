@@ -10,7 +10,7 @@ use mathlib.Core.Option.{Option, none, some}
 use mathlib.Core.List.{List, [], _∷_, _++_, append-assoc, append-nil}
 use lib.Dec.{T, ltb, eqb, nltb→le, eqb→eq, T-not, eqb-refl}
 use lib.ListN.{length, getD, take, drop, length-append, length-drop, take-append-drop}
-use lib.Seq.{take-at, drop-at, take-add, drop-drop, getD-take, getD-drop}
+use lib.Seq.{take-at, drop-at, take-add, drop-drop, getD-take, getD-drop, length-take-le}
 use borrow.Author.Tests.{ltb-true, ltb-false, lt-ltb, le-ltb, eq-eqb, ne-eqb}
 use Rattle.numbers.specs.Little.{little, bytesOf, Bytes, span}
 use Rattle.numbers.proofs.LittleLaws.{bytes-drop, little-small, length-bytesOf, little-bytesOf, bytesOf-little, part-rest}
@@ -412,6 +412,17 @@ pub ahead-end : (s : List ℕ) (at cap : ℕ) → length s ≤ at → N.End ≡ 
 unfolding aheadOf
 ahead-end s at cap h = rw (le-ltb at (length s) h)
 
+-- the body is behind the lead
+pub body-behind : (r : Rec) (x : List ℕ) → encodeOne r ≡ take (size r) x → size r ≤ length x
+    → take (length (r .body)) (drop (leadOf (length (r .body))) x) ≡ r .body
+unfolding encodeOne size
+body-behind r x e h =
+    let lead = leadOf (length (r .body)) in
+    let n = length (r .body) in
+    sym (drop-at (take lead x) (take n (drop lead x)) lead (length-take-le lead x (omega arith)))
+    ∙ ap (drop lead) (sym (take-add lead n x) ∙ sym e)
+    ∙ drop-at (headerOf (r .tag) (r .level) n) (r .body) lead (length-headerOf (r .tag) (r .level) n)
+
 -- ---- a step over the records: what is known where it found one at `at`
 
 pub record Here (s : List ℕ) (at cap : ℕ) (r : Record) : Type 0 where
@@ -429,6 +440,7 @@ pub record Here (s : List ℕ) (at cap : ℕ) (r : Record) : Type 0 where
   pub obeys : Obeys cap rec
   pub inside : at + size rec ≤ length s
   pub bytes : encodeOne rec ≡ take (size rec) (drop at s)
+  pub body-there : take (r .length) (drop (r .body .0) s) ≡ rec .body
   pub next : readFrom cap 0 (drop at s) ≡ onto rec (readFrom (rec .level + 1) 0 (drop (at + size rec) s))
 
 module _ (s : List ℕ) (at cap : ℕ) where
@@ -460,6 +472,7 @@ module _ (s : List ℕ) (at cap : ℕ) where
           obeys = d .obeys;
           inside = omega (arith, d .inside, length-drop at s);
           bytes = d .bytes;
+          body-there = ap (take (length (k .body))) (sym (drop-drop (leadOf (length (k .body))) at s)) ∙ body-behind k (drop at s) (d .bytes) (d .inside);
           next = read-next cap (drop at s) k (some-left h) q ∙ ap (λ (l : List ℕ). onto k (readFrom (k .level + 1) 0 l)) (drop-drop (size k) at s);
         })
 
