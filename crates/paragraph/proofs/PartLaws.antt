@@ -12,7 +12,7 @@ use Rattle.records.specs.Reading.{recordAt}
 use Rattle.records.specs.declared.header.Record.{Record}
 use Rattle.paragraph.specs.View.{side, kids, controls}
 use Rattle.paragraph.specs.Stream.{recordsIn}
-use Rattle.paragraph.specs.Places.{foundIn, takenAs, taken, partsIn}
+use Rattle.paragraph.specs.Places.{foundIn, takenAs, partsIn}
 use Rattle.paragraph.specs.declared.view.Side.{Side}
 use Rattle.paragraph.specs.declared.view.Side.the-variants as S
 use Rattle.paragraph.specs.declared.children.Parts.{Parts}
@@ -36,6 +36,17 @@ joined a b =
       layout = earlier (a .layout) (b .layout);
       marks = earlier (a .marks) (b .marks);
       controls = a .controls + b .controls;
+    }
+
+-- the parts with one more child, by its tag
+unfoldable taken : Parts → Record → Parts
+taken a p =
+    record {
+      text = takenAs (a .text) (eqb (p .tag) 67) p;
+      shapes = takenAs (a .shapes) (eqb (p .tag) 68) p;
+      layout = takenAs (a .layout) (eqb (p .tag) 69) p;
+      marks = takenAs (a .marks) (eqb (p .tag) 70) p;
+      controls = a .controls + cond (eqb (p .tag) 71) 1 0;
     }
 
 abbrev pub nothing : Parts

@@ -81,17 +81,6 @@ abbrev pub takenAs : Found → Bool → Record → Found
 takenAs (P.At q) is p = P.At q
 takenAs P.Nothing is p = cond is (P.At p) P.Nothing
 
--- the parts with one more child, by its tag
-unfoldable pub taken : Parts → Record → Parts
-taken a p =
-    record {
-      text = takenAs (a .text) (eqb (p .tag) kind.text) p;
-      shapes = takenAs (a .shapes) (eqb (p .tag) kind.shapes) p;
-      layout = takenAs (a .layout) (eqb (p .tag) kind.layout) p;
-      marks = takenAs (a .marks) (eqb (p .tag) kind.marks) p;
-      controls = a .controls + cond (eqb (p .tag) kind.controlHeader) 1 0;
-    }
-
 abbrev pub lengthsFound : Parts → Lengths
 lengthsFound p =
     record {
