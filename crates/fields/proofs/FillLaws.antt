@@ -34,7 +34,7 @@ use Rattle.search.specs.Accepted.{Sound}
 use Rattle.search.specs.declared.seek.Hit.{Hit}
 use Rattle.fields.specs.declared.outcome.Searched.{Searched}
 use Rattle.fields.specs.declared.outcome.Searched.the-variants as So
-use Rattle.fields.proofs.AcceptLaws.{sectioned}
+use Rattle.search.proofs.AcceptLaws.{sectioned}
 use Rattle.fields.proofs.LocateLaws.{only-one, Located, here-is}
 use Rattle.writing.proofs.CallLaws.{sheet-of-is}
 use Rattle.filling.proofs.OrderLaws.{value-right}

@@ -1,19 +1,20 @@
 // What a search comes to, and the text of a field.
 use filling::TextAnswer;
 use paragraph::unit_place;
-use records::Answer;
 use records::Fault;
 use records::Offset;
 use records::Refusal;
 use search::Hit;
 use search::Met;
-use search::search;
-use section::check;
+use search::Sought;
+use search::search_section;
 ghost use mathlib.Core.Path.{_≡_};
 ghost use Rattle.paragraph.specs.Stream.{recordsIn};
 ghost use Rattle.filling.specs.Search as Search;
 ghost use Rattle.filling.specs.Filling.{textAnswer};
+ghost use Rattle.filling.specs.Search.{hits};
 ghost use Rattle.search.specs.Accepted.{Sound};
+ghost use Rattle.search.specs.Searching.{metWith};
 ghost use Rattle.fields.specs.Outcomes.{searchedOf};
 ghost use Rattle.fields.specs.Calls.{fieldTextAnswer};
 
@@ -29,12 +30,12 @@ pub fn no_field(fault: Fault, place: Offset) -> Searched
     Searched::Refused(Refusal { fault, place })
 }
 
-// The one plain field with the id.
-pub fn find_field(s: &[u8], id: u32) -> Searched
-    requires { ⌜ Sound (now s) ⌝ }
+// The one plain field with the id, by what the search met.
+pub fn find_field(s: &[u8], id: u32, met: Met) -> Searched
+    requires { ⌜ met ≡ metWith Met.Nothing (hits id 0 0 (recordsIn (now s))) ⌝ }
     ensures { λ r. ⌜ r ≡ searchedOf (Search.search id (recordsIn (now (s .entry)))) ⌝ }
 {
-    match search(s, id) {
+    match met {
         Met::Nothing => no_field(Fault::NoField, Offset(0)),
         Met::Twice(second) => no_field(Fault::FieldTwice, second),
         Met::One(h) => {
@@ -49,11 +50,11 @@ pub fn find_field(s: &[u8], id: u32) -> Searched
 }
 
 // Where the text of the field starts, and how many bytes it has.
-fn text_in(s: &[u8], id: u32) -> TextAnswer
-    requires { ⌜ Sound (now s) ⌝ }
+fn text_in(s: &[u8], id: u32, met: Met) -> TextAnswer
+    requires { ⌜ Sound (now s) × (met ≡ metWith Met.Nothing (hits id 0 0 (recordsIn (now s)))) ⌝ }
     ensures { λ r. ⌜ r ≡ textAnswer id (recordsIn (now (s .entry))) ⌝ }
 {
-    match find_field(s, id) {
+    match find_field(s, id, met) {
         Searched::Refused(r) => TextAnswer::Refused(r),
         Searched::One(h) => {
             let text = h.text;
@@ -72,8 +73,8 @@ fn text_in(s: &[u8], id: u32) -> TextAnswer
 pub fn field_text(s: &[u8], id: u32) -> TextAnswer
     ensures { λ r. ⌜ r ≡ fieldTextAnswer (now (s .entry)) id ⌝ }
 {
-    match check(s) {
-        Answer::Accepted(_) => text_in(s, id),
-        Answer::Refused(r) => TextAnswer::Refused(r),
+    match search_section(s, id) {
+        Sought::Met(met) => text_in(s, id, met),
+        Sought::Refused(r) => TextAnswer::Refused(r),
     }
 }

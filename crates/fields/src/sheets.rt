@@ -8,7 +8,9 @@ use records::Fault;
 use records::Offset;
 use records::refused;
 use search::Hit;
-use section::check;
+use search::Met;
+use search::Sought;
+use search::search_section;
 use writing::measure;
 use writing::write;
 ghost use mathlib.Core.Path.{_≡_};
@@ -21,19 +23,21 @@ ghost use Rattle.filling.specs.Filling.{fillable, fits, fillAnswer, fillBytes};
 ghost use Rattle.writing.specs.Sheet.{fieldOf};
 ghost use Rattle.writing.specs.Sheet as Sheet;
 ghost use Rattle.orders.specs.Calls.{fillOf, sheetOf};
+ghost use Rattle.filling.specs.Search.{hits};
 ghost use Rattle.search.specs.Accepted.{Sound};
+ghost use Rattle.search.specs.Searching.{metWith};
 ghost use Rattle.fields.specs.Outcomes.{searchedOf};
 ghost use Rattle.fields.specs.Calls.{leaves, hitSheet};
 
 // The field that may be filled: 20, then 21 to 23, then 24.
-fn find_fillable(s: &[u8], id: u32, value: &[u8]) -> Searched
-    requires { ⌜ Sound (now s) ⌝ }
+fn find_fillable(s: &[u8], id: u32, met: Met, value: &[u8]) -> Searched
+    requires { ⌜ met ≡ metWith Met.Nothing (hits id 0 0 (recordsIn (now s))) ⌝ }
     ensures { λ r. ⌜ r ≡ searchedOf (fillable id (now (value .entry)) (recordsIn (now (s .entry)))) ⌝ }
 {
     if value_wrong(value) {
         return no_field(Fault::ValueWrong, Offset(0));
     }
-    match find_field(s, id) {
+    match find_field(s, id, met) {
         Searched::Refused(r) => Searched::Refused(r),
         Searched::One(h) => {
             if h.marks == 0 {
@@ -65,11 +69,11 @@ fn put_sheet(s: &[u8], h: Hit, value: &[u8], out: &mut [u8]) -> Answer
 }
 
 // The fill of a section that check accepted.
-fn fill_in(s: &[u8], id: u32, value: &[u8], out: &mut [u8]) -> Answer
-    requires { ⌜ Sound (now s) × (length (now s) ≤ limit) ⌝ }
+fn fill_in(s: &[u8], id: u32, met: Met, value: &[u8], out: &mut [u8]) -> Answer
+    requires { ⌜ Sound (now s) × (length (now s) ≤ limit) × (met ≡ metWith Met.Nothing (hits id 0 0 (recordsIn (now s)))) ⌝ }
     ensures { λ r. ⌜ (r ≡ fillAnswer id (now (value .entry)) (recordsIn (now (s .entry))) (length (now (out .entry)))) × (now (out .exit) ≡ written (fillBytes id (now (value .entry)) (recordsIn (now (s .entry))) (length (now (out .entry)))) (now (out .entry))) ⌝ }
 {
-    match find_fillable(s, id, value) {
+    match find_fillable(s, id, met, value) {
         Searched::Refused(r) => Answer::Refused(r),
         Searched::One(h) => put_sheet(s, h, value, out),
     }
@@ -81,8 +85,8 @@ pub fn fill(s: &[u8], id: u32, value: &[u8], out: &mut [u8]) -> Answer
     ensures answer { λ r. ⌜ r ≡ fillOf (now (s .entry)) id (now (value .entry)) (length (now (out .entry))) ⌝ }
     ensures sheet { λ _. ⌜ now (out .exit) ≡ written (sheetOf (now (s .entry)) id (now (value .entry)) (length (now (out .entry)))) (now (out .entry)) ⌝ }
 {
-    match check(s) {
-        Answer::Accepted(_) => fill_in(s, id, value, out),
-        Answer::Refused(r) => Answer::Refused(r),
+    match search_section(s, id) {
+        Sought::Met(met) => fill_in(s, id, met, value, out),
+        Sought::Refused(r) => Answer::Refused(r),
     }
 }

@@ -5,3 +5,4 @@ pub mod FitLaws
 pub mod BareLaws
 pub mod LookLaws
 pub mod SearchLaws
+pub mod AcceptLaws

@@ -12,6 +12,10 @@ use Rattle.text.specs.Answers.{place}
 use Rattle.text.specs.declared.Position.{Position}
 use Rattle.text.specs.declared.Standing.{Standing}
 use Rattle.text.specs.declared.Standing.the-variants.{Ordinary, Control}
+use Rattle.records.specs.Reading.{readAll}
+use Rattle.records.specs.declared.fault.Answer.{Answer}
+use Rattle.records.specs.declared.fault.Answer.the-variants as A
+use Rattle.section.specs.Section.{checkAnswer}
 use Rattle.paragraph.specs.Rules.{countsOf}
 use Rattle.paragraph.specs.View.{side}
 use Rattle.paragraph.specs.declared.view.Side.{Side}
@@ -27,6 +31,8 @@ use Rattle.search.specs.declared.seek.Field.{Field}
 use Rattle.search.specs.declared.seek.Hit.{Hit}
 use Rattle.search.specs.declared.seek.Met.{Met}
 use Rattle.search.specs.declared.seek.Met.the-variants as M
+use Rattle.search.specs.declared.seek.Sought.{Sought}
+use Rattle.search.specs.declared.seek.Sought.the-variants as So
 use Rattle.search.specs.declared.seek.Closing.{Closing}
 use Rattle.search.specs.declared.seek.Passed.{Passed}
 use Rattle.search.specs.declared.seek.Seen.{Seen}
@@ -147,3 +153,11 @@ metWith m (h ∷ hs) = metWith (metNext m (told h)) hs
 -- what was met behind a step that is this hit, or none
 abbrev pub metBy : Met → Seen → Hit → Met
 metBy m x h = cond (x .field) (metNext m h) m
+
+-- what the search of a section comes to: check's refusal, and else what was met (document 01, 'Order')
+abbrev pub soughtOf : Answer → Met → Sought
+soughtOf (A.Accepted n) m = So.Met m
+soughtOf (A.Refused r) m = So.Refused r
+
+unfoldable pub sought : List ℕ → ℕ → Sought
+sought s id = soughtOf (checkAnswer s) (metWith M.Nothing (Search.hits id 0 0 (readAll s .recs)))

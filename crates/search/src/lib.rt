@@ -12,4 +12,5 @@ pub use seek::Hit;
 pub use seek::Met;
 pub use seek::Passed;
 pub use seek::Seen;
-pub use seek::search;
+pub use seek::Sought;
+pub use seek::search_section;

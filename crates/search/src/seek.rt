@@ -9,8 +9,11 @@ use paragraph::Owned;
 use paragraph::body;
 use paragraph::owned_header;
 use reader::next_control;
+use records::Answer;
 use records::Offset;
 use records::Record;
+use records::Refusal;
+use section::check;
 use text::Position;
 use text::Standing;
 use text::Step;
@@ -26,7 +29,7 @@ ghost use Rattle.paragraph.specs.Rules.{ownerOf};
 ghost use Rattle.paragraph.specs.declared.fields.Owned.the-variants as K;
 ghost use Rattle.filling.specs.Fields.{idIn, next};
 ghost use Rattle.filling.specs.Search.{hits};
-ghost use Rattle.search.specs.Searching.{closingOf, closingBy, seenOf, begun, hitFrom, metBy, metWith};
+ghost use Rattle.search.specs.Searching.{closingOf, closingBy, seenOf, begun, hitFrom, metBy, metWith, sought};
 ghost use Rattle.search.specs.Searching as Searching;
 ghost use Rattle.search.specs.Accepted.{Keep};
 
@@ -55,6 +58,12 @@ pub enum Met {
     Nothing,
     One(Hit),
     Twice(Offset),
+}
+
+// What the search of a section comes to: check's refusal, or what was met.
+pub enum Sought {
+    Refused(Refusal),
+    Met(Met),
 }
 
 // The unit that closes a field: its position, and whether it is code 4.
@@ -241,7 +250,7 @@ fn meet(met: Met, seen: Seen, g: Paragraph, text: &[u8], ordinal: usize, a: Posi
 }
 
 // All fields with the id, in stream order and in each paragraph in the order of its text. The second leaves paragraph and text together.
-pub fn search(s: &[u8], id: u32) -> Met
+fn search(s: &[u8], id: u32) -> Met
     requires { ⌜ Keep (recordsIn (now s)) ⌝ }
     ensures { λ r. ⌜ r ≡ metWith Met.Nothing (hits id 0 0 (recordsIn (now (s .entry)))) ⌝ }
 {
@@ -280,4 +289,14 @@ pub fn search(s: &[u8], id: u32) -> Met
         }
     }
     met
+}
+
+// The search of a section, behind check's numbers.
+pub fn search_section(s: &[u8], id: u32) -> Sought
+    ensures { λ r. ⌜ r ≡ sought (now (s .entry)) id ⌝ }
+{
+    match check(s) {
+        Answer::Accepted(_) => Sought::Met(search(s, id)),
+        Answer::Refused(r) => Sought::Refused(r),
+    }
 }

@@ -1,32 +1,53 @@
-use mathlib.Core.Path.{sym, _∙_}
+-- Field text behind the search. Assumes nothing.
+use mathlib.Core.Path.{_≡_, refl, sym, ap, _∙_}
+use mathlib.Core.List.{List}
 use Rattle.numbers.proofs.LittleLaws.{slice-bytes}
-use Rattle.fields.proofs.AcceptLaws.{sectioned, text-accepted, text-not}
+use Rattle.records.specs.Records.{Rec}
+use Rattle.filling.specs.Search.{hits}
+use Rattle.search.specs.Searching.{metWith}
+use Rattle.search.specs.declared.seek.Met.the-variants as M
+use Rattle.search.proofs.AcceptLaws.{Sectioned, sectioned, Behind, behind, refused-before}
+use Rattle.fields.proofs.AcceptLaws.{text-accepted, text-not}
 use borrow.Author.Needs.{needs}
 use Rattle.fields.proofs.outcome.field_text.Statement.{statement}
 use Rattle.fields.proofs.outcome.field_text.Tie as tie
 use Rattle.fields.proofs.outcome.field_text.Reads as reads
 use Rattle.fields.proofs.outcome.field_text.Lts as lts
 use Rattle.fields.proofs.outcome.text_in.Reads as text-in-reads
-use Rattle.section.proofs.check.Reads as check-reads
+use Rattle.search.proofs.search_section.Reads as search-section-reads
 
-check-requires : tie.Need-check-requires
-check-requires c κs = search needs
+search-section-requires : tie.Need-search-section-requires
+search-section-requires c κs = search needs
 
-enum-told : tie.Need-enum-told
-enum-told c = search needs
+enum-known-met : tie.Need-enum-known-met
+enum-known-met c = search needs
+
+-- where the search met: check accepted, and what it met
+its : (c : tie.After-met) → Behind (c .before .before .before .before .args .s .now) (c .before .before .before .before .args .id) (c .met .given .0 .0)
+its c = behind _ _ _ (sym (c .before .before .search-section .ensures) ∙ c .met .given .1)
+
+section-of : (c : tie.After-met) → Sectioned (c .before .before .before .before .args .s .now)
+section-of c = sectioned _ (slice-bytes (c .before .before .before .before .args .s .now) (c .before .before .before .shared-slice-known .given)) _ (sym (its c .accepted))
 
 text-in-requires : tie.Need-text-in-requires
-text-in-requires c κs = sectioned _ (slice-bytes (c .before .before .before .before .args .s .now) (c .before .before .before .shared-slice-known .given)) _ (sym (c .before .before .check .ensures) ∙ c .enum-told .given .1) .sound
+text-in-requires c κs = let d = c .before in (section-of d .sound, its d .met-is ∙ ap (λ (l : List Rec). metWith M.Nothing (hits (d .before .before .before .before .args .id) 0 0 l)) (sym (section-of d .records)))
 
 enum-known-r : tie.Need-enum-known-r
 enum-known-r c = search needs
 
 returns : tie.Need-returns
-returns c = text-accepted _ _ _ (c .before .before .before .check .ensures) _ (slice-bytes (c .before .before .before .before .before .args .s .now) (c .before .before .before .before .shared-slice-known .given)) (c .before .enum-told .given .1) (c .text-in .ensures)
+returns c = let d = c .before .before in text-accepted _ _ _ (its d .accepted) _ (slice-bytes (d .before .before .before .before .args .s .now) (d .before .before .before .shared-slice-known .given)) refl (c .text-in .ensures)
 
 returns-2 : tie.Need-returns-2
-returns-2 c = text-not _ _ _ (c .before .before .before .check .ensures) _ (c .before .r .given .1)
+returns-2 c = text-not _ _ _ (refused-before _ _ _ (sym (c .before .before .before .search-section .ensures) ∙ c .before .r .given .1)) _ refl
 
 pub field-text-spec : {M : Type 1} → statement M
 field-text-spec =
-    tie.close (tie.spec check-requires enum-told text-in-requires enum-known-r returns returns-2)
+    tie.close
+    (tie.spec
+    search-section-requires
+    enum-known-met
+    text-in-requires
+    enum-known-r
+    returns
+    returns-2)

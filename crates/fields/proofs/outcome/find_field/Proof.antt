@@ -1,3 +1,4 @@
+-- The one plain field, by what was met. Assumes nothing.
 use mathlib.Core.Path.{refl, sym, _∙_}
 use Rattle.fields.proofs.LocateLaws.{searched-none, searched-two, searched-one, searched-not}
 use borrow.Author.Needs.{needs}
@@ -6,10 +7,6 @@ use Rattle.fields.proofs.outcome.find_field.Tie as tie
 use Rattle.fields.proofs.outcome.find_field.Reads as reads
 use Rattle.fields.proofs.outcome.find_field.Lts as lts
 use Rattle.fields.proofs.outcome.no_field.Reads as no-field-reads
-use Rattle.search.proofs.search.Reads as search-reads
-
-search-requires : tie.Need-search-requires
-search-requires c κs = c .before .pre .keep
 
 enum-told : tie.Need-enum-told
 enum-told c = search needs
@@ -17,40 +14,39 @@ enum-told c = search needs
 no-field-requires : tie.Need-no-field-requires
 no-field-requires c κs = search needs
 
-enum-known-second : tie.Need-enum-known-second
-enum-known-second c = search needs
+enum-known-met : tie.Need-enum-known-met
+enum-known-met c = search needs
 
 no-field-requires-2 : tie.Need-no-field-requires-2
 no-field-requires-2 c κs = search needs
 
-enum-known-h : tie.Need-enum-known-h
-enum-known-h c = search needs
+enum-known-met-2 : tie.Need-enum-known-met-2
+enum-known-met-2 c = search needs
 
 no-field-requires-3 : tie.Need-no-field-requires-3
 no-field-requires-3 c κs = search needs
 
 returns : tie.Need-returns
-returns c = searched-none _ _ _ refl (sym (c .before .before .before .search .ensures) ∙ c .before .enum-told .given .1) (c .no-field .ensures)
+returns c = searched-none _ _ _ refl (sym (c .before .before .before .before .pre) ∙ c .before .enum-told .given .1) (c .no-field .ensures)
 
 returns-2 : tie.Need-returns-2
-returns-2 c = searched-two _ _ _ refl (sym (c .before .before .before .before .search .ensures) ∙ c .before .before .second .given .1) (c .no-field2 .ensures)
+returns-2 c = searched-two _ _ _ refl (sym (c .before .before .before .before .before .pre) ∙ c .before .before .met .given .1) (c .no-field2 .ensures)
 
 returns-3 : tie.Need-returns-3
-returns-3 c = searched-one _ _ _ refl (sym (c .before .before .before .before .before .search .ensures) ∙ c .before .before .before .h .given .1) (c .if1 .taken)
+returns-3 c = searched-one _ _ _ refl (sym (c .before .before .before .before .before .before .pre) ∙ c .before .before .before .met2 .given .1) (c .if1 .taken)
 
 returns-4 : tie.Need-returns-4
-returns-4 c = searched-not _ _ _ refl (sym (c .before .before .before .before .before .before .search .ensures) ∙ c .before .before .before .before .h .given .1) (c .before .if1 .left) (c .no-field3 .ensures)
+returns-4 c = searched-not _ _ _ refl (sym (c .before .before .before .before .before .before .before .pre) ∙ c .before .before .before .before .met2 .given .1) (c .before .if1 .left) (c .no-field3 .ensures)
 
 pub find-field-spec : {M : Type 1} → statement M
 find-field-spec =
     tie.close
     (tie.spec
-    search-requires
     enum-told
     no-field-requires
-    enum-known-second
+    enum-known-met
     no-field-requires-2
-    enum-known-h
+    enum-known-met-2
     no-field-requires-3
     returns
     returns-2

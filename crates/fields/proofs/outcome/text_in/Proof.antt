@@ -27,13 +27,13 @@ unit-place-requires c κs = search needs
 
 -- what is known of the hit
 at-hit : (c : tie.After-h) → Bounds (c .before .before .before .before .args .s .now) (c .h .given .0 .0)
-at-hit c = bounds _ (slice-bytes (c .before .before .before .before .args .s .now) (c .before .before .before .shared-slice-known .given)) (c .before .before .before .before .pre) _ _ (sym (c .before .before .find-field .ensures) ∙ c .h .given .1)
+at-hit c = bounds _ (slice-bytes (c .before .before .before .before .args .s .now) (c .before .before .before .shared-slice-known .given)) (c .before .before .before .before .pre .0) _ _ (sym (c .before .before .find-field .ensures) ∙ c .h .given .1)
 
-sub-t12 : tie.Need-sub-t12
-sub-t12 c = omega (arith, at-hit (c .before .before .before .before .before .before .before .before) .a-b)
+sub-t13 : tie.Need-sub-t13
+sub-t13 c = omega (arith, at-hit (c .before .before .before .before .before .before .before .before) .a-b)
 
-mul-t13 : tie.Need-mul-t13
-mul-t13 c = let d = c .before .before .before .before .before .before .before .before in omega (arith, at-hit d .a-b, at-hit d .inside, c .before .before .before .before .before .before .before .before .before .before .before .before .good .0 .0)
+mul-t14 : tie.Need-mul-t14
+mul-t14 c = let d = c .before .before .before .before .before .before .before .before in omega (arith, at-hit d .a-b, at-hit d .inside, c .before .before .before .before .before .before .before .before .before .before .before .before .good .0 .0)
 
 returns : tie.Need-returns
 returns c = text-refused _ _ _ (sym (c .before .before .before .find-field .ensures) ∙ c .before .r .given .1)
@@ -53,7 +53,7 @@ text-in-spec =
     enum-known-r
     enum-known-h
     unit-place-requires
-    sub-t12
-    mul-t13
+    sub-t13
+    mul-t14
     returns
     returns-2)

@@ -28,7 +28,7 @@ same-length : tie.Need-same-length
 same-length c = search needs
 
 returns-2 : tie.Need-returns-2
-returns-2 c = fill-one _ _ _ _ _ (c .before .before .before .before .before .before .before .find-fillable .ensures) _ _ _ _ (c .before .before .before .before .before .h .given .1) (λ k e. hit-sheet _ _ _ (c .before .before .before .before .before .before .before .before .before .before .before .pre .0) (c .before .before .before .before .before .before .before .before .before .before .before .pre .1) (slice-bytes (c .before .before .before .before .before .before .before .before .before .before .before .args .s .now) (c .before .before .before .before .before .before .before .before .before .before .shared-slice-known .given)) k e) (c .before .before .put-sheet .ensures)
+returns-2 c = let e = c .before .before .before .before .before .before .before .before .before .before .before in fill-one _ _ _ _ _ (c .before .before .before .before .before .before .before .find-fillable .ensures) _ _ _ _ (c .before .before .before .before .before .h .given .1) (λ k q. hit-sheet _ _ _ (e .pre .0) (e .pre .1) (slice-bytes (e .args .s .now) (c .before .before .before .before .before .before .before .before .before .before .shared-slice-known .given)) k q) (c .before .before .put-sheet .ensures)
 
 pub fill-in-spec : {M : Type 1} → statement M
 fill-in-spec =

@@ -1,0 +1,76 @@
+-- What check's acceptance gives the calls behind it, and what a search that met says. Assumes nothing.
+use Prim.Native.Nat.{ℕ, _≤_}
+use native.Mathlib.Omega.{arith}
+use mathlib.Core.Path.{_≡_, refl, sym, ap, _∙_, subst}
+use mathlib.Core.List.{List}
+use lib.ListN.{length}
+use Rattle.numbers.specs.Little.{Bytes}
+use Rattle.records.specs.Records.{Rec, limit, encode}
+use Rattle.records.specs.Reading.{readAll}
+use Rattle.records.specs.declared.fault.Refusal.{Refusal}
+use Rattle.records.specs.declared.fault.Answer.{Answer}
+use Rattle.records.specs.declared.fault.Answer.the-variants as A
+use Rattle.paragraph.specs.Stream.{recordsIn}
+use Rattle.paragraph.proofs.StreamLaws.{in-encode}
+use Rattle.section.specs.Section.{checkAnswer}
+use Rattle.acceptance.proofs.SectionReader.{accepted-section}
+use Rattle.filling.specs.Search.{hits}
+use Rattle.search.specs.Accepted.{Keep, Sound}
+use Rattle.search.specs.Searching.{metWith, soughtOf, sought}
+use Rattle.search.specs.declared.seek.Met.{Met}
+use Rattle.search.specs.declared.seek.Met.the-variants as M
+use Rattle.search.specs.declared.seek.Sought.{Sought}
+use Rattle.search.specs.declared.seek.Sought.the-variants as So
+
+pub record Sectioned (s : List ℕ) : Type 0 where
+  pub small : length s ≤ limit
+  pub records : recordsIn s ≡ readAll s .recs
+  pub sound : Sound s
+
+module _ (s : List ℕ) (bs : Bytes s) (n : ℕ) (e : checkAnswer s ≡ A.Accepted n) where
+  pub sectioned : Sectioned s
+  sectioned =
+      let k = accepted-section s n bs e in
+      let same = ap recordsIn (sym (k .encodes .stream)) ∙ in-encode 0 (readAll s .recs) (k .encodes .lawful) in
+      record {
+        small = k .within;
+        records = same;
+        sound = record { whole = ap encode same ∙ k .encodes .stream; keep = subst Keep (sym same) (k .obeys .paragraphs) };
+      }
+
+-- ---- the search of a section
+
+module _ (s : List ℕ) (id : ℕ) (x : Answer) (is : x ≡ checkAnswer s) where
+  pub sought-met : (n : ℕ) {m : Met} → Bytes s → x ≡ A.Accepted n → m ≡ metWith M.Nothing (hits id 0 0 (recordsIn s)) → So.Met m ≡ sought s id
+  unfolding sought
+  sought-met n bs e q =
+      ap So.Met (q ∙ ap (λ (l : List Rec). metWith M.Nothing (hits id 0 0 l)) (sectioned s bs n (sym is ∙ e) .records))
+      ∙ ap (λ (a : Answer). soughtOf a (metWith M.Nothing (hits id 0 0 (readAll s .recs)))) (sym e ∙ is)
+
+  pub sought-not : (r : Refusal) → x ≡ A.Refused r → So.Refused r ≡ sought s id
+  unfolding sought
+  sought-not r e = ap (λ (a : Answer). soughtOf a (metWith M.Nothing (hits id 0 0 (readAll s .recs)))) (sym e ∙ is)
+
+-- and back: a search that met stands over a section that check accepted
+pub record Behind (s : List ℕ) (id : ℕ) (m : Met) : Type 0 where
+  pub count : ℕ
+  pub accepted : A.Accepted count ≡ checkAnswer s
+  pub met-is : m ≡ metWith M.Nothing (hits id 0 0 (readAll s .recs))
+
+behind-by : (a : Answer) (m k : Met) → soughtOf a k ≡ So.Met m → (n : ℕ) × (A.Accepted n ≡ a) × (m ≡ k)
+behind-by (A.Accepted n) m k e = (n, refl, cc)
+behind-by (A.Refused r) m k e = absurd (let z : _≡_ {A = ℕ} 0 1 = cc in omega arith)
+
+pub behind : (s : List ℕ) (id : ℕ) (m : Met) → sought s id ≡ So.Met m → Behind s id m
+unfolding sought
+behind s id m e =
+    let k = behind-by (checkAnswer s) m (metWith M.Nothing (hits id 0 0 (readAll s .recs))) e in
+    record { count = k .0; accepted = k .1; met-is = k .2 }
+
+refused-by : (a : Answer) (r : Refusal) (k : Met) → soughtOf a k ≡ So.Refused r → A.Refused r ≡ a
+refused-by (A.Accepted n) r k e = absurd (let z : _≡_ {A = ℕ} 0 1 = cc in omega arith)
+refused-by (A.Refused q) r k e = let z : q ≡ r = cc in ap A.Refused (sym z)
+
+pub refused-before : (s : List ℕ) (id : ℕ) (r : Refusal) → sought s id ≡ So.Refused r → A.Refused r ≡ checkAnswer s
+unfolding sought
+refused-before s id r e = refused-by (checkAnswer s) r (metWith M.Nothing (hits id 0 0 (readAll s .recs))) e
