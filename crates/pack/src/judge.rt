@@ -116,14 +116,8 @@ fn judge_rows(
     while i < count {
         let level = levels[i];
         let length = wide(lengths[i]);
-        match row(
-            tags[i],
-            level,
-            Offset(wide(places[i])),
-            length,
-            cap,
-            bytes.len(),
-        ) {
+        let place = Offset(wide(places[i]));
+        match row(tags[i], level, place, length, cap, bytes.len()) {
             Verdict::Sound => {
                 cap = level + 1;
                 total = grown(total, length);

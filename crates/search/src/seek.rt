@@ -259,9 +259,7 @@ fn search(s: &[u8], id: u32) -> Met
     let mut at = Offset(0);
     'search: loop {
         match look_at(s, number, at) {
-            Look::Nothing => {
-                break;
-            }
+            Look::Nothing => break,
             Look::Passed { paragraphs, next } => {
                 number += paragraphs;
                 at = next;

@@ -24,7 +24,7 @@ abbrev length-read : tie.After-row Inv-loop μ-loop → tie.After-wide Inv-loop 
 length-read c = c .before .before .before .before
 
 abbrev place-read : tie.After-row Inv-loop μ-loop → tie.After-wide2 Inv-loop μ-loop
-place-read c = c .before
+place-read c = c .before .before
 
 abbrev turn : tie.After-row Inv-loop μ-loop → tie.In-loop Inv-loop μ-loop
 turn c = c .before .before .before .before .before .before .before
@@ -47,12 +47,6 @@ shared-slice-read-wide c = search needs
 wide-requires : tie.Need-wide-requires Inv-loop μ-loop
 wide-requires c κs = search needs
 
-mul-row : tie.Need-mul-row Inv-loop μ-loop
-mul-row c = search needs
-
-shared-slice-read-row : tie.Need-shared-slice-read-row Inv-loop μ-loop
-shared-slice-read-row c = search needs
-
 mul-wide-2 : tie.Need-mul-wide-2 Inv-loop μ-loop
 mul-wide-2 c = search needs
 
@@ -61,6 +55,12 @@ shared-slice-read-wide-2 c = search needs
 
 wide-requires-2 : tie.Need-wide-requires-2 Inv-loop μ-loop
 wide-requires-2 c κs = search needs
+
+mul-row : tie.Need-mul-row Inv-loop μ-loop
+mul-row c = search needs
+
+shared-slice-read-row : tie.Need-shared-slice-read-row Inv-loop μ-loop
+shared-slice-read-row c = search needs
 
 row-requires : tie.Need-row-requires Inv-loop μ-loop
 row-requires c κs = search needs
@@ -119,11 +119,11 @@ judge-rows-spec =
     mul-wide
     shared-slice-read-wide
     wide-requires
-    mul-row
-    shared-slice-read-row
     mul-wide-2
     shared-slice-read-wide-2
     wide-requires-2
+    mul-row
+    shared-slice-read-row
     row-requires
     enum-told
     add-cap
