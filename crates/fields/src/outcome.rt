@@ -6,7 +6,7 @@ use records::Offset;
 use records::Refusal;
 use search::Hit;
 use search::Met;
-use search::Sought;
+use search::SectionSearch;
 use search::search_section;
 ghost use mathlib.Core.Path.{_≡_};
 ghost use Rattle.paragraph.specs.Stream.{recordsIn};
@@ -74,7 +74,7 @@ pub fn field_text(s: &[u8], id: u32) -> TextAnswer
     ensures { λ r. ⌜ r ≡ fieldTextAnswer (now (s .entry)) id ⌝ }
 {
     match search_section(s, id) {
-        Sought::Met(met) => text_in(s, id, met),
-        Sought::Refused(r) => TextAnswer::Refused(r),
+        SectionSearch::Met(met) => text_in(s, id, met),
+        SectionSearch::Refused(r) => TextAnswer::Refused(r),
     }
 }

@@ -9,7 +9,7 @@ use records::Offset;
 use records::refused;
 use search::Hit;
 use search::Met;
-use search::Sought;
+use search::SectionSearch;
 use search::search_section;
 use writing::measure;
 use writing::write;
@@ -86,7 +86,7 @@ pub fn fill(s: &[u8], id: u32, value: &[u8], out: &mut [u8]) -> Answer
     ensures sheet { λ _. ⌜ now (out .exit) ≡ written (sheetOf (now (s .entry)) id (now (value .entry)) (length (now (out .entry)))) (now (out .entry)) ⌝ }
 {
     match search_section(s, id) {
-        Sought::Met(met) => fill_in(s, id, met, value, out),
-        Sought::Refused(r) => Answer::Refused(r),
+        SectionSearch::Met(met) => fill_in(s, id, met, value, out),
+        SectionSearch::Refused(r) => Answer::Refused(r),
     }
 }

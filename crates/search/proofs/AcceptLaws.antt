@@ -16,11 +16,11 @@ use Rattle.section.specs.Section.{checkAnswer}
 use Rattle.acceptance.proofs.SectionReader.{accepted-section}
 use Rattle.filling.specs.Search.{hits}
 use Rattle.search.specs.Accepted.{Keep, Sound}
-use Rattle.search.specs.Searching.{metWith, soughtOf, sought}
+use Rattle.search.specs.Searching.{metWith, sectionSearchOf, sectionSearch}
 use Rattle.search.specs.declared.seek.Met.{Met}
 use Rattle.search.specs.declared.seek.Met.the-variants as M
-use Rattle.search.specs.declared.seek.Sought.{Sought}
-use Rattle.search.specs.declared.seek.Sought.the-variants as So
+use Rattle.search.specs.declared.seek.SectionSearch.{SectionSearch}
+use Rattle.search.specs.declared.seek.SectionSearch.the-variants as S
 
 pub record Sectioned (s : List ℕ) : Type 0 where
   pub small : length s ≤ limit
@@ -41,15 +41,15 @@ module _ (s : List ℕ) (bs : Bytes s) (n : ℕ) (e : checkAnswer s ≡ A.Accept
 -- ---- the search of a section
 
 module _ (s : List ℕ) (id : ℕ) (x : Answer) (is : x ≡ checkAnswer s) where
-  pub sought-met : (n : ℕ) {m : Met} → Bytes s → x ≡ A.Accepted n → m ≡ metWith M.Nothing (hits id 0 0 (recordsIn s)) → So.Met m ≡ sought s id
-  unfolding sought
-  sought-met n bs e q =
-      ap So.Met (q ∙ ap (λ (l : List Rec). metWith M.Nothing (hits id 0 0 l)) (sectioned s bs n (sym is ∙ e) .records))
-      ∙ ap (λ (a : Answer). soughtOf a (metWith M.Nothing (hits id 0 0 (readAll s .recs)))) (sym e ∙ is)
+  pub search-met : (n : ℕ) {m : Met} → Bytes s → x ≡ A.Accepted n → m ≡ metWith M.Nothing (hits id 0 0 (recordsIn s)) → S.Met m ≡ sectionSearch s id
+  unfolding sectionSearch
+  search-met n bs e q =
+      ap S.Met (q ∙ ap (λ (l : List Rec). metWith M.Nothing (hits id 0 0 l)) (sectioned s bs n (sym is ∙ e) .records))
+      ∙ ap (λ (a : Answer). sectionSearchOf a (metWith M.Nothing (hits id 0 0 (readAll s .recs)))) (sym e ∙ is)
 
-  pub sought-not : (r : Refusal) → x ≡ A.Refused r → So.Refused r ≡ sought s id
-  unfolding sought
-  sought-not r e = ap (λ (a : Answer). soughtOf a (metWith M.Nothing (hits id 0 0 (readAll s .recs)))) (sym e ∙ is)
+  pub search-not : (r : Refusal) → x ≡ A.Refused r → S.Refused r ≡ sectionSearch s id
+  unfolding sectionSearch
+  search-not r e = ap (λ (a : Answer). sectionSearchOf a (metWith M.Nothing (hits id 0 0 (readAll s .recs)))) (sym e ∙ is)
 
 -- and back: a search that met stands over a section that check accepted
 pub record Behind (s : List ℕ) (id : ℕ) (m : Met) : Type 0 where
@@ -57,20 +57,20 @@ pub record Behind (s : List ℕ) (id : ℕ) (m : Met) : Type 0 where
   pub accepted : A.Accepted count ≡ checkAnswer s
   pub met-is : m ≡ metWith M.Nothing (hits id 0 0 (readAll s .recs))
 
-behind-by : (a : Answer) (m k : Met) → soughtOf a k ≡ So.Met m → (n : ℕ) × (A.Accepted n ≡ a) × (m ≡ k)
+behind-by : (a : Answer) (m k : Met) → sectionSearchOf a k ≡ S.Met m → (n : ℕ) × (A.Accepted n ≡ a) × (m ≡ k)
 behind-by (A.Accepted n) m k e = (n, refl, cc)
 behind-by (A.Refused r) m k e = absurd (let z : _≡_ {A = ℕ} 0 1 = cc in omega arith)
 
-pub behind : (s : List ℕ) (id : ℕ) (m : Met) → sought s id ≡ So.Met m → Behind s id m
-unfolding sought
+pub behind : (s : List ℕ) (id : ℕ) (m : Met) → sectionSearch s id ≡ S.Met m → Behind s id m
+unfolding sectionSearch
 behind s id m e =
     let k = behind-by (checkAnswer s) m (metWith M.Nothing (hits id 0 0 (readAll s .recs))) e in
     record { count = k .0; accepted = k .1; met-is = k .2 }
 
-refused-by : (a : Answer) (r : Refusal) (k : Met) → soughtOf a k ≡ So.Refused r → A.Refused r ≡ a
+refused-by : (a : Answer) (r : Refusal) (k : Met) → sectionSearchOf a k ≡ S.Refused r → A.Refused r ≡ a
 refused-by (A.Accepted n) r k e = absurd (let z : _≡_ {A = ℕ} 0 1 = cc in omega arith)
 refused-by (A.Refused q) r k e = let z : q ≡ r = cc in ap A.Refused (sym z)
 
-pub refused-before : (s : List ℕ) (id : ℕ) (r : Refusal) → sought s id ≡ So.Refused r → A.Refused r ≡ checkAnswer s
-unfolding sought
+pub refused-before : (s : List ℕ) (id : ℕ) (r : Refusal) → sectionSearch s id ≡ S.Refused r → A.Refused r ≡ checkAnswer s
+unfolding sectionSearch
 refused-before s id r e = refused-by (checkAnswer s) r (metWith M.Nothing (hits id 0 0 (readAll s .recs))) e

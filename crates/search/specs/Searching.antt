@@ -31,8 +31,8 @@ use Rattle.search.specs.declared.seek.Field.{Field}
 use Rattle.search.specs.declared.seek.Hit.{Hit}
 use Rattle.search.specs.declared.seek.Met.{Met}
 use Rattle.search.specs.declared.seek.Met.the-variants as M
-use Rattle.search.specs.declared.seek.Sought.{Sought}
-use Rattle.search.specs.declared.seek.Sought.the-variants as So
+use Rattle.search.specs.declared.seek.SectionSearch.{SectionSearch}
+use Rattle.search.specs.declared.seek.SectionSearch.the-variants as So
 use Rattle.search.specs.declared.seek.Closing.{Closing}
 use Rattle.search.specs.declared.seek.Passed.{Passed}
 use Rattle.search.specs.declared.seek.Seen.{Seen}
@@ -155,9 +155,9 @@ abbrev pub metBy : Met → Seen → Hit → Met
 metBy m x h = cond (x .field) (metNext m h) m
 
 -- what the search of a section comes to: check's refusal, and else what was met (document 01, 'Order')
-abbrev pub soughtOf : Answer → Met → Sought
-soughtOf (A.Accepted n) m = So.Met m
-soughtOf (A.Refused r) m = So.Refused r
+abbrev pub sectionSearchOf : Answer → Met → SectionSearch
+sectionSearchOf (A.Accepted n) m = So.Met m
+sectionSearchOf (A.Refused r) m = So.Refused r
 
-unfoldable pub sought : List ℕ → ℕ → Sought
-sought s id = soughtOf (checkAnswer s) (metWith M.Nothing (Search.hits id 0 0 (readAll s .recs)))
+unfoldable pub sectionSearch : List ℕ → ℕ → SectionSearch
+sectionSearch s id = sectionSearchOf (checkAnswer s) (metWith M.Nothing (Search.hits id 0 0 (readAll s .recs)))

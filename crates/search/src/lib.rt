@@ -11,6 +11,6 @@ pub use seek::Field;
 pub use seek::Hit;
 pub use seek::Met;
 pub use seek::Passed;
+pub use seek::SectionSearch;
 pub use seek::Seen;
-pub use seek::Sought;
 pub use seek::search_section;

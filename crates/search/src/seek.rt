@@ -29,7 +29,7 @@ ghost use Rattle.paragraph.specs.Rules.{ownerOf};
 ghost use Rattle.paragraph.specs.declared.fields.Owned.the-variants as K;
 ghost use Rattle.filling.specs.Fields.{idIn, next};
 ghost use Rattle.filling.specs.Search.{hits};
-ghost use Rattle.search.specs.Searching.{closingOf, closingBy, seenOf, begun, hitFrom, metBy, metWith, sought};
+ghost use Rattle.search.specs.Searching.{closingOf, closingBy, seenOf, begun, hitFrom, metBy, metWith, sectionSearch};
 ghost use Rattle.search.specs.Searching as Searching;
 ghost use Rattle.search.specs.Accepted.{Keep};
 
@@ -61,7 +61,7 @@ pub enum Met {
 }
 
 // What the search of a section comes to: check's refusal, or what was met.
-pub enum Sought {
+pub enum SectionSearch {
     Refused(Refusal),
     Met(Met),
 }
@@ -290,11 +290,11 @@ fn search(s: &[u8], id: u32) -> Met
 }
 
 // The search of a section, behind check's numbers.
-pub fn search_section(s: &[u8], id: u32) -> Sought
-    ensures { λ r. ⌜ r ≡ sought (now (s .entry)) id ⌝ }
+pub fn search_section(s: &[u8], id: u32) -> SectionSearch
+    ensures { λ r. ⌜ r ≡ sectionSearch (now (s .entry)) id ⌝ }
 {
     match check(s) {
-        Answer::Accepted(_) => Sought::Met(search(s, id)),
-        Answer::Refused(r) => Sought::Refused(r),
+        Answer::Accepted(_) => SectionSearch::Met(search(s, id)),
+        Answer::Refused(r) => SectionSearch::Refused(r),
     }
 }

@@ -1,7 +1,7 @@
 -- The search of a section stands behind check. Assumes nothing.
 use mathlib.Core.Path.{sym, _∙_}
 use Rattle.numbers.proofs.LittleLaws.{slice-bytes}
-use Rattle.search.proofs.AcceptLaws.{sectioned, sought-met, sought-not}
+use Rattle.search.proofs.AcceptLaws.{sectioned, search-met, search-not}
 use borrow.Author.Needs.{needs}
 use Rattle.search.proofs.seek.search_section.Statement.{statement}
 use Rattle.search.proofs.seek.search_section.Tie as tie
@@ -23,10 +23,10 @@ enum-known-r : tie.Need-enum-known-r
 enum-known-r c = search needs
 
 returns : tie.Need-returns
-returns c = sought-met _ _ _ (c .before .before .before .check .ensures) _ (slice-bytes (c .before .before .before .before .before .args .s .now) (c .before .before .before .before .shared-slice-known .given)) (c .before .enum-told .given .1) (c .search .ensures)
+returns c = search-met _ _ _ (c .before .before .before .check .ensures) _ (slice-bytes (c .before .before .before .before .before .args .s .now) (c .before .before .before .before .shared-slice-known .given)) (c .before .enum-told .given .1) (c .search .ensures)
 
 returns-2 : tie.Need-returns-2
-returns-2 c = sought-not _ _ _ (c .before .before .before .check .ensures) _ (c .before .r .given .1)
+returns-2 c = search-not _ _ _ (c .before .before .before .check .ensures) _ (c .before .r .given .1)
 
 pub search-section-spec : {M : Type 1} → statement M
 search-section-spec =
