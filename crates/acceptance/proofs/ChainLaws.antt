@@ -12,7 +12,7 @@ use borrow.Author.Tests.{ltb-true, ltb-false, leb-true, leb-false, eqb-true, eqb
 use Rattle.numbers.specs.Little.{little}
 use Rattle.records.specs.declared.fault.Fault.{Fault}
 use Rattle.text.proofs.Cases.{eq-or}
-use Rattle.paragraph.specs.Entries.{entries, startFault, shapesFault, markFault, marksFault}
+use Rattle.entries.specs.Entries.{entries, startFault, shapesFault, markFault, marksFault}
 use Rattle.paragraph.specs.Rules.{guard, orElse, lengthOf, lacks, unwanted, misfits, isSome, fieldShort, fieldFault}
 use Rattle.paragraph.specs.declared.finding.Which.{Which}
 use Rattle.paragraph.specs.declared.finding.Finding.{Finding}

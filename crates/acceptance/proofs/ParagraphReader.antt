@@ -14,7 +14,7 @@ use Rattle.text.specs.Units.{units}
 use Rattle.text.specs.Walk.{Sound, textFault, tokens, extendedCount}
 use Rattle.text.proofs.SoundLaws.{sound-exactly}
 use Rattle.paragraph.specs.View.{View, child, controls}
-use Rattle.paragraph.specs.Entries.{shapesFault, marksFault}
+use Rattle.entries.specs.Entries.{shapesFault, marksFault}
 use Rattle.paragraph.specs.Rules.{countsOf, lengthOf, lengthsOf, lacks, absent, unwanted, misfits, lengthFault, isSome, textBroken, bytesIn, entryFault, codesIn, fieldFault, controlFault, bodyFault, partsFault, headFault, paragraphFault}
 use Rattle.paragraph.specs.declared.finding.Counts.{Counts}
 use Rattle.paragraph.specs.declared.finding.Finding.{Finding}

@@ -9,7 +9,7 @@ use Rattle.records.specs.Kinds as kind
 use Rattle.text.specs.Units.{units}
 use Rattle.text.specs.Walk.{Sound, tokens, extendedCount}
 use Rattle.paragraph.specs.View.{View, child, controls}
-use Rattle.paragraph.specs.Entries.{entries}
+use Rattle.entries.specs.Entries.{entries}
 use Rattle.paragraph.specs.Rules.{countsOf, bytesIn, codesIn}
 use Rattle.paragraph.specs.declared.finding.Counts.{Counts}
 

@@ -17,7 +17,7 @@ use Rattle.records.specs.Reading.{offset}
 use Rattle.records.specs.declared.fault.Offset.{Offset}
 use Rattle.records.specs.declared.header.Record.{Record}
 use Rattle.text.specs.declared.Position.{Position}
-use Rattle.paragraph.specs.Entries.{entries}
+use Rattle.entries.specs.Entries.{entries}
 use Rattle.paragraph.specs.Places.{unitPlace}
 use Rattle.filling.specs.Replacing.{replaced}
 use Rattle.filling.specs.Shapes.{Entry, entryAt, inside, anyInside, startAt, moved, packed, shapesIn, shapesAfter}

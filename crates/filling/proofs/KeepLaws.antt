@@ -15,7 +15,7 @@ use Rattle.text.specs.Walk.{Sound, Token, tokens, extendedCount, AllOrdinary}
 use Rattle.text.proofs.UnitLaws.{length-units}
 use Rattle.text.proofs.PartLaws.{leftOver, shift, singles, tokens-parts, tokens-replaced, extended-kept, sound-kept}
 use Rattle.paragraph.specs.View.{View, child, controls}
-use Rattle.paragraph.specs.Entries.{entries}
+use Rattle.entries.specs.Entries.{entries}
 use Rattle.paragraph.specs.Rules.{countsOf, bytesIn, ownerOf, codeBefore, codesIn}
 use Rattle.paragraph.specs.declared.finding.Counts.{Counts}
 use Rattle.paragraph.specs.declared.fields.Owner.{Owner}

@@ -9,7 +9,7 @@ use lib.Seq.{drop-at, drop-append-le, take-append-le, drop-drop}
 use Rattle.numbers.specs.Little.{little, bytesOf, span, Bytes}
 use Rattle.numbers.proofs.LittleLaws.{length-bytesOf, little-bytesOf, little-small, bytes-drop}
 use Rattle.text.proofs.Cases.{lt-or}
-use Rattle.paragraph.specs.Entries.{entries}
+use Rattle.entries.specs.Entries.{entries}
 use Rattle.filling.specs.Replacing.{replaced}
 use Rattle.filling.specs.Shapes.{Entry, entryAt, shapesIn, packed}
 use Rattle.filling.proofs.ReplacingLaws.{replaced-comm, replaced-again, length-replaced}

@@ -4,7 +4,7 @@ use mathlib.Core.Bool.{Bool, false, cond, _&&_, _||_}
 use mathlib.Core.List.{List, [], _∷_, _++_, map}
 use lib.Dec.{ltb, leb}
 use lib.ListN.{length, drop}
-use Rattle.paragraph.specs.Entries.{entries}
+use Rattle.entries.specs.Entries.{entries}
 use Rattle.numbers.specs.Little.{little, bytesOf}
 
 -- one entry of a shapes record: the position where it starts, and the shape

@@ -10,14 +10,14 @@ use lib.ListN.{length, take, drop}
 use Rattle.numbers.specs.Little.{little}
 use Rattle.numbers.proofs.LittleLaws.{part-rest}
 use Rattle.paragraph.specs.Rules.{countsOf, guard, orElse, ofChild, entryFault, lacks, unwanted, misfits, isSome}
-use Rattle.paragraph.specs.Entries.{entriesOf, shapesFault, marksFault}
+use Rattle.entries.specs.Entries.{entriesOf, shapesFault, marksFault}
 use Rattle.paragraph.specs.Places.{lengthFound}
 use Rattle.records.specs.declared.fault.Fault.the-variants as F
 use Rattle.records.specs.declared.header.Record.{Record}
 use Rattle.paragraph.specs.declared.children.Found.{Found}
 use Rattle.paragraph.specs.declared.children.Found.the-variants as P
-use Rattle.paragraph.specs.declared.entries.Entries.{Entries}
-use Rattle.paragraph.specs.declared.entries.Entries.the-variants as E
+use Rattle.entries.specs.declared.Entries.{Entries}
+use Rattle.entries.specs.declared.Entries.the-variants as E
 use Rattle.paragraph.specs.declared.finding.Finding.{Finding}
 use Rattle.paragraph.specs.declared.finding.Finding.the-variants as G
 

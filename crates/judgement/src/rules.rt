@@ -1,12 +1,12 @@
 // The rules on numbers and lengths: 10, 11 and 13.
+use entries::Entries;
+use entries::judge_marks;
+use entries::judge_shapes;
 use paragraph::Counts;
-use paragraph::Entries;
 use paragraph::Finding;
 use paragraph::Found;
 use paragraph::Parts;
 use paragraph::Which;
-use paragraph::judge_marks;
-use paragraph::judge_shapes;
 use records::Fault;
 use records::Kind;
 ghost use mathlib.Core.Path.{_≡_};

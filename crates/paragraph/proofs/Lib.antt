@@ -1,7 +1,6 @@
 pub mod ViewLaws
 pub mod StreamLaws
 pub mod FindLaws
-pub mod EntryLaws
 pub mod BodyLaws
 pub mod OwningLaws
 pub mod PartLaws

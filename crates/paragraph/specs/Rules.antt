@@ -16,7 +16,7 @@ use Rattle.text.specs.declared.Class.the-variants.{Character, Inline, Extended}
 use Rattle.text.specs.declared.Standing.{Standing}
 use Rattle.text.specs.declared.Standing.the-variants.{Ordinary, Control}
 use Rattle.paragraph.specs.View.{View, view, child, controls}
-use Rattle.paragraph.specs.Entries.{shapesFault, marksFault}
+use Rattle.entries.specs.Entries.{shapesFault, marksFault}
 use Rattle.paragraph.specs.declared.finding.Counts.{Counts}
 use Rattle.paragraph.specs.declared.fields.Owner.{Owner}
 use Rattle.paragraph.specs.declared.fields.Owner.the-variants as O

@@ -1,6 +1,5 @@
 // One paragraph: its view and its rules (document 01, 'Paragraphs').
 mod children;
-mod entries;
 mod fields;
 mod finding;
 mod view;
@@ -11,9 +10,6 @@ pub use children::body;
 pub use children::bytes;
 pub use children::find;
 pub use children::find_parts;
-pub use entries::Entries;
-pub use entries::judge_marks;
-pub use entries::judge_shapes;
 pub use fields::Owned;
 pub use fields::Owner;
 pub use fields::field_short;

@@ -10,8 +10,8 @@ use lib.ListN.{length, take, drop, length-drop}
 use lib.Seq.{drop-drop, take-all}
 use Rattle.numbers.specs.Little.{Bytes, little, bytesOf}
 use Rattle.numbers.proofs.LittleLaws.{bytes-drop, bytesOf-little, length-bytesOf, part-rest}
-use Rattle.paragraph.specs.Entries.{entries}
-use Rattle.paragraph.proofs.EntryLaws.{entries-next, entries-end}
+use Rattle.entries.specs.Entries.{entries}
+use Rattle.entries.proofs.EntryLaws.{entries-next, entries-end}
 use Rattle.filling.specs.Shapes.{Entry, entryAt, inside, anyInside, startAt, moved, packed, shapesIn, shapesAfter}
 use Rattle.putting.specs.Putting.{largest, Puts}
 use Rattle.putting.specs.Keeping.{shapesFrom, kept}

@@ -3,7 +3,7 @@ use Prim.Native.Nat.{ℕ, _-_, _*_, _/_}
 use mathlib.Core.Bool.{cond, _&&_}
 use mathlib.Core.List.{List, [], _∷_, map}
 use lib.ListN.{length, drop}
-use Rattle.paragraph.specs.Entries.{entries}
+use Rattle.entries.specs.Entries.{entries}
 use Rattle.filling.specs.Shapes.{Entry, entryAt, inside, anyInside, startAt, moved}
 
 -- the entries of a shapes record from number i on

@@ -12,7 +12,7 @@ use Rattle.records.specs.Records.{Rec, encodeOne, size}
 use Rattle.records.specs.declared.header.Record.{Record}
 use Rattle.paragraph.specs.View.{view, kids, child}
 use Rattle.paragraph.specs.Stream.{recordsIn}
-use Rattle.paragraph.specs.Entries.{entries}
+use Rattle.entries.specs.Entries.{entries}
 use Rattle.paragraph.specs.Rules.{bytesIn}
 use Rattle.paragraph.specs.Places.{foundIn, bodyFound, bodyOf}
 use Rattle.paragraph.specs.declared.children.Found.{Found}

@@ -6,13 +6,13 @@ use mathlib.Core.Path.{_≡_, ap, _∙_}
 use lib.ListN.{length, drop}
 use Rattle.numbers.specs.Little.{little}
 use Rattle.numbers.proofs.LittleLaws.{part-rest}
-use Rattle.paragraph.proofs.EntryLaws.{Rising, rising-start, rising-low, rising-high, rising-next, rising-end}
-use Rattle.paragraph.proofs.entries.judge_shapes.Statement.{statement}
-use Rattle.paragraph.proofs.entries.judge_shapes.Tie as tie
-use Rattle.paragraph.proofs.entries.judge_shapes.Reads as reads
-use Rattle.paragraph.proofs.entries.judge_shapes.Lts as lts
+use Rattle.entries.proofs.EntryLaws.{Rising, rising-start, rising-low, rising-high, rising-next, rising-end}
+use Rattle.entries.proofs.judge_shapes.Statement.{statement}
+use Rattle.entries.proofs.judge_shapes.Tie as tie
+use Rattle.entries.proofs.judge_shapes.Reads as reads
+use Rattle.entries.proofs.judge_shapes.Lts as lts
 use Rattle.numbers.proofs.number32.Reads as number32-reads
-use Rattle.paragraph.proofs.entries.at_least_one.Reads as at-least-one-reads
+use Rattle.entries.proofs.at_least_one.Reads as at-least-one-reads
 
 abbrev Inv-loop : tie.InvT-loop
 Inv-loop b count n bound i₀ low₀ high₀ i low high = Rising b count n bound i low high

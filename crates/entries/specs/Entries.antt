@@ -6,8 +6,8 @@ use mathlib.Core.List.{List, [], _∷_}
 use lib.Dec.{ltb, leb}
 use lib.ListN.{length, drop}
 use Rattle.numbers.specs.Little.{little}
-use Rattle.paragraph.specs.declared.entries.Entries.{Entries}
-use Rattle.paragraph.specs.declared.entries.Entries.the-variants as E
+use Rattle.entries.specs.declared.Entries.{Entries}
+use Rattle.entries.specs.declared.Entries.the-variants as E
 
 -- the first n entries of a body, w bytes each: the bytes from each entry on
 unfoldable pub entries : ℕ → ℕ → List ℕ → List (List ℕ)

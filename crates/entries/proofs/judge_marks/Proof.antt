@@ -6,11 +6,11 @@ use mathlib.Core.Path.{_≡_, ap, _∙_}
 use lib.ListN.{length, drop}
 use Rattle.numbers.specs.Little.{little}
 use Rattle.numbers.proofs.LittleLaws.{part-rest}
-use Rattle.paragraph.proofs.EntryLaws.{Marking, marking-start, marking-turned, marking-beyond, marking-next, marking-end}
-use Rattle.paragraph.proofs.entries.judge_marks.Statement.{statement}
-use Rattle.paragraph.proofs.entries.judge_marks.Tie as tie
-use Rattle.paragraph.proofs.entries.judge_marks.Reads as reads
-use Rattle.paragraph.proofs.entries.judge_marks.Lts as lts
+use Rattle.entries.proofs.EntryLaws.{Marking, marking-start, marking-turned, marking-beyond, marking-next, marking-end}
+use Rattle.entries.proofs.judge_marks.Statement.{statement}
+use Rattle.entries.proofs.judge_marks.Tie as tie
+use Rattle.entries.proofs.judge_marks.Reads as reads
+use Rattle.entries.proofs.judge_marks.Lts as lts
 use Rattle.numbers.proofs.number32.Reads as number32-reads
 
 abbrev Inv-loop : tie.InvT-loop

@@ -2,7 +2,7 @@
 use numbers::number32;
 ghost use mathlib.Core.Path.{_≡_};
 ghost use Prim.Native.Nat.{max};
-ghost use Rattle.paragraph.specs.Entries.{shapesFault, marksFault, entriesOf};
+ghost use Rattle.entries.specs.Entries.{shapesFault, marksFault, entriesOf};
 
 // Whether the entries keep their rule, or the first that does not.
 pub enum Entries {

@@ -9,8 +9,8 @@ use lib.ListN.{length, drop}
 use lib.Seq.{drop-drop}
 use borrow.Author.Tests.{le-leb, lt-leb, lt-ltb, le-ltb}
 use Rattle.numbers.specs.Little.{little}
-use Rattle.paragraph.specs.Entries.{entries, startFault, shapesFault, markFault, marksFault, entriesOf}
-use Rattle.paragraph.specs.declared.entries.Entries.the-variants as E
+use Rattle.entries.specs.Entries.{entries, startFault, shapesFault, markFault, marksFault, entriesOf}
+use Rattle.entries.specs.declared.Entries.the-variants as E
 
 -- ---- entries of any width
 
