@@ -10,9 +10,9 @@ use Rattle.numbers.proofs.LittleLaws.{length-bytesOf}
 use Rattle.filling.specs.Replacing.{replaced}
 use Rattle.filling.specs.Filling.{recounted, newHead}
 
-pub recount-is : (a b v w : ℕ) {gone left : ℕ} → gone ≡ b - a → left ≡ w % 2147483648 + v - gone → w / 2147483648 * 2147483648 + left ≡ recounted a b v w
+pub recount-is : (a b v w : ℕ) {u gone left : ℕ} → u ≡ v → gone ≡ b - a → left ≡ w % 2147483648 + u - gone → w / 2147483648 * 2147483648 + left ≡ recounted a b v w
 unfolding recounted
-recount-is a b v w e f = omega arith
+recount-is a b v w d e f = omega arith
 
 -- the elements from i on, of the first i + n
 middle : (i n : ℕ) (h : List ℕ) → i + n ≤ length h → drop i (take (i + n) h) ≡ take n (drop i h)

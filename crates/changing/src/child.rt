@@ -17,7 +17,7 @@ use records::Offset;
 use records::Record;
 use text::Position;
 ghost use mathlib.Core.Path.{_≡_};
-ghost use Prim.Native.Nat.{_*_, _/_, _≤_, min};
+ghost use Prim.Native.Nat.{_*_, min};
 ghost use lib.ListN.{length};
 ghost use Rattle.records.specs.Records.{encodeOne};
 ghost use Rattle.filling.specs.Replacing.{replaced};
@@ -72,7 +72,6 @@ fn put_text(out: &mut [u8], at: Offset, r: Record, body: &[u8], spot: Spot, valu
 
 // How many bytes the shapes take after a fill: as many as would be put.
 pub fn shapes_length(body: &[u8], change: Change) -> usize
-    requires { ⌜ change .v ≤ 9223372036854775807 ⌝ }
     ensures { λ r. ⌜ r ≡ length (packed (shapesAfter (change .a .0) (change .b .0) (change .v) (shapesIn (now (body .entry))))) ⌝ }
 {
     let mut none = [0u8; 1];
@@ -82,7 +81,6 @@ pub fn shapes_length(body: &[u8], change: Change) -> usize
 
 // Puts the shapes.
 fn put_shapes(out: &mut [u8], at: Offset, r: Record, body: &[u8], change: Change) -> Offset
-    requires { ⌜ change .v ≤ 9223372036854775807 ⌝ }
     ensures { λ next. ⌜ Puts (now (out .entry)) (at .0) (encodeOne (recordWith r (packed (shapesAfter (change .a .0) (change .b .0) (change .v) (shapesIn (now (body .entry))))))) (next .0) (now (out .exit)) ⌝ }
 {
     let p = put_head(out, at, r.tag, r.level, shapes_length(body, change));
@@ -124,7 +122,7 @@ pub fn put_child(
         return put_text(out, at, r, body, spot, value);
     }
     if tag == Kind::SHAPES {
-        let v = value.len() / 2;
+        let v = (value.len() / 2) as u32;
         return put_shapes(out, at, r, body, Change { a, b, v });
     }
     if tag == Kind::LAYOUT {

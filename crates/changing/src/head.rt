@@ -20,11 +20,11 @@ ghost use Rattle.changing.specs.Child.{recordWith};
 
 // The 32 bits that hold the count, changed; bit 31 is kept.
 fn recount(change: Change, w: usize) -> usize
-    requires { ⌜ (w < 4294967296) × (change .v ≤ 9223372036854775807) ⌝ }
+    requires { ⌜ w < 4294967296 ⌝ }
     ensures { λ r. ⌜ r ≡ recounted (change .a .0) (change .b .0) (change .v) w ⌝ }
 {
     let flag = w / 2147483648 * 2147483648;
-    let count = w % 2147483648 + change.v;
+    let count = w % 2147483648 + wide(change.v);
     flag + less(count, between(change.a, change.b))
 }
 
@@ -37,7 +37,7 @@ pub fn put_paragraph(
     shapes: usize,
     change: Change,
 ) -> Offset
-    requires { ⌜ (22 ≤ length (now body)) × (change .v ≤ 9223372036854775807) ⌝ }
+    requires { ⌜ 22 ≤ length (now body) ⌝ }
     ensures { λ next. ⌜ Puts (now (out .entry)) (at .0) (encodeOne (recordWith r (newHead (change .a .0) (change .b .0) (change .v) shapes (now (body .entry))))) (next .0) (now (out .exit)) ⌝ }
 {
     let count = recount(change, wide(number32(body)));

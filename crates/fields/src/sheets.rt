@@ -20,7 +20,6 @@ ghost use Rattle.records.specs.Records.{limit};
 ghost use Rattle.records.specs.Table.{written};
 ghost use Rattle.paragraph.specs.Stream.{recordsIn};
 ghost use Rattle.filling.specs.Filling.{fillable, fits, fillAnswer, fillBytes};
-ghost use Rattle.writing.specs.Sheet.{fieldOf};
 ghost use Rattle.writing.specs.Sheet as Sheet;
 ghost use Rattle.orders.specs.Calls.{fillOf, sheetOf};
 ghost use Rattle.filling.specs.Search.{hits};

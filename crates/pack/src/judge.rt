@@ -9,7 +9,7 @@ ghost use lib.ListN.{length};
 ghost use Rattle.records.specs.Answers.{hostForm};
 ghost use Rattle.records.specs.Records.{leadOf};
 ghost use Rattle.records.specs.Table.{shortest};
-ghost use Rattle.pack.specs.Rows.{Row, rows, rowOf};
+ghost use Rattle.pack.specs.Rows.{rows, rowOf};
 ghost use Rattle.pack.specs.Packing.{number, place, verdict, closing, rowsAnswer, packAnswer};
 
 // A record's index in the table.

@@ -15,7 +15,7 @@ ghost use Rattle.putting.specs.Keeping.{shapesFrom, kept};
 pub struct Change {
     pub a: Position,
     pub b: Position,
-    pub v: usize,
+    pub v: u32,
 }
 
 pub fn wide(x: u32) -> usize
@@ -50,12 +50,12 @@ fn within(a: Position, b: Position, start: Position) -> bool
 
 // Where a start goes that is kept.
 fn new_start(change: Change, start: Position) -> Position
-    requires { ⌜ (start .0 < 4294967296) × (change .v ≤ 9223372036854775807) ⌝ }
+    requires { ⌜ start .0 < 4294967296 ⌝ }
     ensures { λ r. ⌜ r .0 ≡ moved (change .a .0) (change .b .0) (change .v) (start .0) ⌝ }
 {
     let a = change.a;
     let b = change.b;
-    let v = change.v;
+    let v = wide(change.v);
     if start.0 < a.0 {
         return start;
     }
@@ -91,7 +91,7 @@ fn any_inside(body: &[u8], from: usize, a: Position, b: Position) -> bool
 
 // Puts entry i with its new start, if it is kept.
 fn put_kept(out: &mut [u8], at: Offset, body: &[u8], i: usize, change: Change) -> Offset
-    requires { ⌜ (i < length (now body) / 8) × (change .v ≤ 9223372036854775807) ⌝ }
+    requires { ⌜ i < length (now body) / 8 ⌝ }
     ensures { λ next. ⌜ Puts (now (out .entry)) (at .0) (packed (kept (change .a .0) (change .b .0) (change .v) (entryAt (drop (8 * i) (now (body .entry)))) (shapesFrom (now (body .entry)) (i + 1)))) (next .0) (now (out .exit)) ⌝ }
 {
     let a = change.a;
@@ -109,7 +109,6 @@ fn put_kept(out: &mut [u8], at: Offset, body: &[u8], i: usize, change: Change) -
 
 // Puts the entries: of those from a to b inclusive only the last is kept.
 pub fn put_entries(out: &mut [u8], at: Offset, body: &[u8], change: Change) -> Offset
-    requires { ⌜ change .v ≤ 9223372036854775807 ⌝ }
     ensures { λ next. ⌜ Puts (now (out .entry)) (at .0) (packed (shapesAfter (change .a .0) (change .b .0) (change .v) (shapesIn (now (body .entry))))) (next .0) (now (out .exit)) ⌝ }
 {
     let n = body.len() / 8;

@@ -15,7 +15,7 @@ use records::Offset;
 use records::record_at;
 use text::Position;
 ghost use mathlib.Core.Path.{_≡_};
-ghost use Prim.Native.Nat.{_≤_, min};
+ghost use Prim.Native.Nat.{min};
 ghost use lib.ListN.{length, drop};
 ghost use Rattle.records.specs.Kinds as kind;
 ghost use Rattle.paragraph.specs.View.{kids, child};
@@ -28,7 +28,6 @@ ghost use Rattle.writing.specs.Sheet.{fieldOf, sheetBytes, sheetOf};
 
 // How many shapes a paragraph has after a fill; the records behind its header begin at `behind`, its children are at level n.
 fn count_shapes(s: &[u8], behind: Offset, n: u32, change: Change) -> usize
-    requires { ⌜ change .v ≤ 9223372036854775807 ⌝ }
     ensures { λ r. ⌜ r ≡ length (shapesAfter (change .a .0) (change .b .0) (change .v) (shapesOf (child kind.shapes (kids n (recordsIn (drop (behind .0) (now (s .entry)))))))) ⌝ }
 {
     let body = bytes(s, find(s, behind, n, Kind::SHAPES, 0));
@@ -50,7 +49,7 @@ fn put_sheet(out: &mut [u8], s: &[u8], header: Offset, spot: Spot, value: &[u8])
     let n = r.level + 1;
     let a = spot.a;
     let b = spot.b;
-    let v = value.len() / 2;
+    let v = (value.len() / 2) as u32;
     let change = Change { a, b, v };
     let behind = r.next;
     let shapes = count_shapes(s, behind, n, change);

@@ -22,6 +22,9 @@ same-length c = search needs
 returns : tie.Need-returns
 returns c = let a = c .before .before .before .before .before .before .before .before .before .before .args in puts-as (child-text (a .spot) (a .nth) (a .r) (a .value .now) (a .body .now) (c .before .before .before .before .if1 .taken)) (c .before .before .put-text .ensures)
 
+cast-v : tie.Need-cast-v
+cast-v c = search needs
+
 put-shapes-requires : tie.Need-put-shapes-requires
 put-shapes-requires c κs = search needs
 
@@ -64,6 +67,7 @@ put-child-spec =
     put-text-requires
     same-length
     returns
+    cast-v
     put-shapes-requires
     same-length-2
     returns-2

@@ -50,9 +50,9 @@ returns c =
     let c₀ = c .before .before .before .before .before .before .before .before .before .before .before .before .before .before .before .before .before .before .before .before .before .before .before .before .before .before .before .before .before .before .before .before .before in
     let a = c₀ .args in
     let g = a .change in
-    puts-record (a .r) (head-length (g .a .0) (g .b .0) (g .v) (a .shapes) (a .body .now) (c₀ .pre .0)) (c .before .before .before .before .before .before .before .before .before .before .before .before .before .before .before .before .before .before .before .before .before .before .before .before .before .before .put-head .ensures)
+    puts-record (a .r) (head-length (g .a .0) (g .b .0) (g .v) (a .shapes) (a .body .now) (c₀ .pre)) (c .before .before .before .before .before .before .before .before .before .before .before .before .before .before .before .before .before .before .before .before .before .before .before .before .before .before .put-head .ensures)
     (puts-as
-    (head-bytes (g .a .0) (g .b .0) (g .v) (a .shapes) (a .body .now) (c₀ .pre .0) (c .before .before .before .before .before .before .before .before .before .before .before .before .before .before .before .before .before .before .before .before .before .before .before .before .before .before .before .before .before .before .number32 .ensures) (c .before .before .before .before .before .before .before .before .before .before .before .before .before .before .before .before .before .before .before .before .before .before .before .before .before .before .before .before .before .wide .ensures .0) (c .before .before .before .before .before .before .before .before .before .before .before .before .before .before .before .before .before .before .before .before .before .before .before .before .before .before .before .before .recount .ensures))
+    (head-bytes (g .a .0) (g .b .0) (g .v) (a .shapes) (a .body .now) (c₀ .pre) (c .before .before .before .before .before .before .before .before .before .before .before .before .before .before .before .before .before .before .before .before .before .before .before .before .before .before .before .before .before .before .number32 .ensures) (c .before .before .before .before .before .before .before .before .before .before .before .before .before .before .before .before .before .before .before .before .before .before .before .before .before .before .before .before .before .wide .ensures .0) (c .before .before .before .before .before .before .before .before .before .before .before .before .before .before .before .before .before .before .before .before .before .before .before .before .before .before .before .before .recount .ensures))
     (puts-then (c .before .before .before .before .before .before .before .before .before .before .before .before .before .before .before .before .before .before .before .before .before .before .put-low .ensures)
     (puts-then (c .before .before .before .before .before .before .before .before .before .before .before .before .before .before .before .before .before .before .put-part .ensures)
     (puts-then (c .before .before .before .before .before .before .before .before .before .before .before .before .before .before .put-low2 .ensures)

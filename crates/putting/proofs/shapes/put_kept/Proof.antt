@@ -64,8 +64,8 @@ returns-2 c =
     let inside = c .before .before .before .before .before .before .before .before .before .before .within .ensures in
     let moved = c .before .before .before .before .before .before .before .before .new-start .ensures in
     puts-as
-    (⊎-elim (λ w. kept-latest (g .a .0) (g .b .0) (g .v) (a .body .now) (a .i) start inside bs (c₀ .pre .0) moved (w .1 .ensures) (w .2 .left))
-    (λ w. kept-outside (g .a .0) (g .b .0) (g .v) (a .body .now) (a .i) start inside bs (c₀ .pre .0) moved (w .left)) (c .before .before .before .before .before .before .before .before .before .if1 .came))
+    (⊎-elim (λ w. kept-latest (g .a .0) (g .b .0) (g .v) (a .body .now) (a .i) start inside bs (c₀ .pre) moved (w .1 .ensures) (w .2 .left))
+    (λ w. kept-outside (g .a .0) (g .b .0) (g .v) (a .body .now) (a .i) start inside bs (c₀ .pre) moved (w .left)) (c .before .before .before .before .before .before .before .before .before .if1 .came))
     (puts-then (c .before .before .before .before .before .before .put-low .ensures) (c .before .before .put-part .ensures))
 
 pub put-kept-spec : {M : Type 1} → statement M

@@ -54,14 +54,17 @@ returns-2 c = let a = c .before .before .before .before .before .before .before 
 add-n : tie.Need-add-n
 add-n c = let d = its (c .before .before .before .before) in omega (arith, d .level-is, d .stands .level-high)
 
+cast-v : tie.Need-cast-v
+cast-v c = search needs
+
 count-shapes-requires : tie.Need-count-shapes-requires
-count-shapes-requires c κs = omega (arith, c .before .before .before .before .before .before .before .before .before .before .before .before .before .before .before .before .before .pre .1)
+count-shapes-requires c κs = search needs
 
 body-requires : tie.Need-body-requires
 body-requires c κs = search needs
 
 put-paragraph-requires : tie.Need-put-paragraph-requires
-put-paragraph-requires c κs = (body-long (its (c .before .before .before .before .before .before .before .before .before .before)) (c .body .ensures) (c .before .before .before .before .before .before .before .if1 .left), omega (arith, c .before .before .before .before .before .before .before .before .before .before .before .before .before .before .before .before .before .before .before .before .pre .1))
+put-paragraph-requires c κs = body-long (its (c .before .before .before .before .before .before .before .before .before .before)) (c .body .ensures) (c .before .before .before .before .before .before .before .if1 .left)
 
 put-behind-requires : tie.Need-put-behind-requires
 put-behind-requires c κs = c .before .before .before .before .before .before .before .before .before .before .before .before .before .before .before .before .before .before .before .before .before .before .before .before .pre
@@ -89,6 +92,7 @@ put-sheet-spec =
     same-length-2
     returns-2
     add-n
+    cast-v
     count-shapes-requires
     body-requires
     put-paragraph-requires
