@@ -1,6 +1,6 @@
 -- The entries of character shapes and of marks (document 01, 'Paragraphs').
 use Prim.Native.Nat.{ℕ, zero, suc, _+_, _/_, max}
-use mathlib.Core.Bool.{Bool, cond, _&&_}
+use mathlib.Core.Bool.{cond, _&&_}
 use mathlib.Core.Option.{Option, none, some}
 use mathlib.Core.List.{List, [], _∷_}
 use lib.Dec.{ltb, leb}

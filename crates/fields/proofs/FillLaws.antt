@@ -1,17 +1,16 @@
 -- The laws of fill: who may be filled, what its sheet comes to, and the call over a stream. Assumes nothing.
-use Prim.Native.Nat.{ℕ, _+_, _*_, _/_, _≤_, _<_, min}
+use Prim.Native.Nat.{ℕ, _≤_, _<_, min}
 use native.Mathlib.Omega.{arith}
 use native.Mathlib.Nat.{zero-add}
 use mathlib.Core.Path.{_≡_, refl, sym, ap, _∙_, subst}
 use mathlib.Core.Bool.{Bool, true, false, cond}
-use mathlib.Core.List.{List, [], _∷_, _++_}
+use mathlib.Core.List.{List, [], _∷_}
 use lib.ListN.{length, drop}
-use lib.Seq.{sets, sets-eq}
+use lib.Seq.{sets-eq}
 use lib.Dec.{eqb}
 use borrow.Author.Tests.{eq-eqb, ne-eqb}
 use Rattle.numbers.specs.Little.{Bytes}
 use Rattle.records.specs.Records.{Rec, limit}
-use Rattle.records.specs.Reading.{readAll}
 use Rattle.records.specs.Table.{written}
 use Rattle.records.specs.Answers.{refusedAt}
 use Rattle.records.specs.declared.fault.Fault.the-variants as F
@@ -26,61 +25,63 @@ use Rattle.filling.specs.Search.{Outcome, one, refused, search, hits}
 use Rattle.filling.specs.Filling.{valueWrong, unmarked, fillable, sheet, fits, fillAnswer, fillBytes}
 use Rattle.filling.proofs.AnswerLaws.{fits-not, fits-room, fits-all}
 use Rattle.putting.specs.Putting.{Puts, largest}
-use Rattle.orders.specs.Calls.{afterSection, fillOf, sheetOf}
-use Rattle.search.specs.Searching.{told}
-use Rattle.fields.specs.Outcomes.{searchedOf}
+use Rattle.orders.specs.Calls.{fillOf, sheetOf}
+use Rattle.search.specs.Searching.{told, metWith}
+use Rattle.search.specs.declared.seek.Met.{Met}
+use Rattle.search.specs.declared.seek.Met.the-variants as M
+use Rattle.records.specs.Reading.{offset}
+use Rattle.fields.specs.Outcomes.{refusal, plainField, unmarkedField, fillableField}
 use Rattle.fields.specs.Calls.{leaves, hitSheet}
 use Rattle.search.specs.Accepted.{Sound}
 use Rattle.search.specs.declared.seek.Hit.{Hit}
 use Rattle.fields.specs.declared.outcome.Searched.{Searched}
 use Rattle.fields.specs.declared.outcome.Searched.the-variants as So
 use Rattle.search.proofs.AcceptLaws.{sectioned}
-use Rattle.fields.proofs.LocateLaws.{only-one, Located, here-is}
+use Rattle.fields.proofs.LocateLaws.{searchedOf, searched-cond, field-met, only-one, here-is}
 use Rattle.writing.proofs.CallLaws.{sheet-of-is}
-use Rattle.filling.proofs.OrderLaws.{value-right}
+use Rattle.filling.proofs.OrderLaws.{value-right, fillable-wrong, fillable-right}
 
 -- ---- who may be filled
 
-module _ (id : ℕ) (value : List ℕ) (rs : List Rec) where
-  pub fillable-wrong : valueWrong value ≡ true → So.Refused (record { fault = F.ValueWrong; place = record { 0 = 0 } }) ≡ searchedOf (fillable id value rs)
-  unfolding fillable
-  fillable-wrong e = rw (e, fillable)
+-- exits of the judgement
+module _ (value : List ℕ) (m : Met) where
+  pub exit-wrong : valueWrong value ≡ true → refusal F.ValueWrong (offset 0) ≡ fillableField value m
+  unfolding fillableField
+  exit-wrong e = sym (rw e refl)
 
-  fillable-right : valueWrong value ≡ false → fillable id value rs ≡ unmarked (search id rs)
-  unfolding fillable
-  fillable-right e = rw (e, fillable)
+  module _ (right : valueWrong value ≡ false) {x : Searched} (is : x ≡ plainField m) where
+    unmarked-is : unmarkedField x ≡ fillableField value m
+    unfolding fillableField
+    unmarked-is = ap unmarkedField is ∙ sym (rw right refl)
 
-  module _ (right : valueWrong value ≡ false) (x : Searched) (is : x ≡ searchedOf (search id rs)) where
-    pub fillable-refused : (r : Refusal) → x ≡ So.Refused r → So.Refused r ≡ searchedOf (fillable id value rs)
-    unfolding unmarked
-    fillable-refused r e = go (search id rs) refl ∙ sym (ap searchedOf (fillable-right right))
-      where
-        go : (o : Outcome) → search id rs ≡ o → So.Refused r ≡ searchedOf (unmarked (search id rs))
-        go (one h) q = absurd (let z : _≡_ {A = ℕ} 0 1 = cc in omega arith)
-        go (refused f p) q = sym e ∙ is ∙ ap searchedOf q ∙ sym (ap (λ (o : Outcome). searchedOf (unmarked o)) q)
+    pub exit-refused : (r : Refusal) → x ≡ So.Refused r → So.Refused r ≡ fillableField value m
+    unfolding unmarkedField
+    exit-refused r e = ap unmarkedField (sym e) ∙ unmarked-is
 
-    pub fillable-one : (h : Hit) → x ≡ So.One h → h .marks ≡ 0 → So.One h ≡ searchedOf (fillable id value rs)
-    unfolding unmarked
-    fillable-one h e m = go (search id rs) refl ∙ sym (ap searchedOf (fillable-right right))
-      where
-        go : (o : Outcome) → search id rs ≡ o → So.One h ≡ searchedOf (unmarked (search id rs))
-        go (one k) q =
-            let same : told k ≡ h = cc in
-            let marks : k .marks ≡ 0 = ap (λ (y : Hit). y .marks) same ∙ m in
-            sym (ap So.One same) ∙ sym (ap (λ (o : Outcome). searchedOf (unmarked o)) q ∙ rw (eq-eqb (k .marks) 0 marks))
-        go (refused f p) q = absurd (let z : _≡_ {A = ℕ} 0 1 = cc in omega arith)
+    module _ (h : Hit) (e : x ≡ So.One h) where
+      pub exit-one : h .marks ≡ 0 → So.One h ≡ fillableField value m
+      unfolding unmarkedField
+      exit-one k = sym (rw (eq-eqb (h .marks) 0 k) refl) ∙ ap unmarkedField (sym e) ∙ unmarked-is
 
-    pub fillable-marked : (h : Hit) → x ≡ So.One h → (h .marks ≡ 0 → ⊥)
-        → So.Refused (record { fault = F.MarksInParagraph; place = h .header }) ≡ searchedOf (fillable id value rs)
-    unfolding unmarked
-    fillable-marked h e m = go (search id rs) refl ∙ sym (ap searchedOf (fillable-right right))
-      where
-        go : (o : Outcome) → search id rs ≡ o → So.Refused (record { fault = F.MarksInParagraph; place = h .header }) ≡ searchedOf (unmarked (search id rs))
-        go (one k) q =
-            let same : told k ≡ h = cc in
-            ap (λ (y : Hit). So.Refused (record { fault = F.MarksInParagraph; place = y .header })) (sym same)
-            ∙ sym (ap (λ (o : Outcome). searchedOf (unmarked o)) q ∙ rw (ne-eqb (k .marks) 0 (λ z. m (sym (ap (λ (y : Hit). y .marks) same) ∙ z))))
-        go (refused f p) q = absurd (let z : _≡_ {A = ℕ} 0 1 = cc in omega arith)
+      pub exit-marked : (h .marks ≡ 0 → ⊥) → refusal F.MarksInParagraph (h .header) ≡ fillableField value m
+      unfolding unmarkedField
+      exit-marked k = sym (rw (ne-eqb (h .marks) 0 k) refl) ∙ ap unmarkedField (sym e) ∙ unmarked-is
+
+-- which is that of a search
+unmarked-searched : (o : Outcome) → unmarkedField (searchedOf o) ≡ searchedOf (unmarked o)
+unfolding unmarked unmarkedField
+unmarked-searched (one h) = sym (searched-cond (eqb (h .marks) 0) _ _)
+unmarked-searched (refused f p) = refl
+
+pub fillable-met : (id : ℕ) (value : List ℕ) (rs : List Rec) {m : Met} → m ≡ metWith M.Nothing (hits id 0 0 rs)
+    → fillableField value m ≡ searchedOf (fillable id value rs)
+unfolding search
+fillable-met id value rs {m} e = go (valueWrong value) refl
+  where
+    go : (b : Bool) → valueWrong value ≡ b → fillableField value m ≡ searchedOf (fillable id value rs)
+    go true q = sym (exit-wrong value m q) ∙ sym (ap searchedOf (fillable-wrong id value rs q))
+    go false q =
+        sym (unmarked-is value m q refl) ∙ ap unmarkedField (field-met id rs e) ∙ unmarked-searched (search id rs) ∙ sym (ap searchedOf (fillable-right id value rs q))
 
 -- ---- a sheet of the bytes bs, measured as n, for the buffer out
 
@@ -161,10 +162,11 @@ unmarked-one (one h) k e = go (eqb (h .marks) 0) e
 unmarked-one (refused f p) k e = absurd (let z : _≡_ {A = ℕ} 0 1 = cc in omega arith)
 
 fillable-found : (id : ℕ) (value : List ℕ) (rs : List Rec) (k : Search.Hit) → fillable id value rs ≡ one k → (valueWrong value ≡ false) × (search id rs ≡ one k)
+unfolding search
 fillable-found id value rs k e = go (valueWrong value) refl
   where
     go : (b : Bool) → valueWrong value ≡ b → (valueWrong value ≡ false) × (search id rs ≡ one k)
-    go true q = absurd (let y = fillable-wrong id value rs q ∙ ap searchedOf e in let z : _≡_ {A = ℕ} 0 1 = cc in omega arith)
+    go true q = absurd (let y = sym (fillable-wrong id value rs q) ∙ e in let z : _≡_ {A = ℕ} 0 1 = cc in omega arith)
     go false q = (q, unmarked-one (search id rs) k (sym (fillable-right id value rs q) ∙ e))
 
 pub hit-sheet : (s : List ℕ) (id : ℕ) (value : List ℕ) → Sound s → length s ≤ limit → Bytes s → (k : Search.Hit) → fillable id value (recordsIn s) ≡ one k

@@ -1,11 +1,10 @@
 -- Where a hit stands: its paragraph in the stream, and what an edit of that paragraph makes of the stream. Assumes nothing.
-use Prim.Native.Nat.{ℕ, zero, suc, _+_, _-_, _*_, _≤_, _<_, min}
+use Prim.Native.Nat.{ℕ, suc, _+_, _-_, _*_, _≤_, _<_, min}
 use native.Mathlib.Omega.{arith}
 use native.Mathlib.Nat.{add-zero, add-assoc}
 use mathlib.Core.Path.{_≡_, refl, sym, ap, ap₂, _∙_, subst}
 use mathlib.Core.Logic.{_⊎_, inl, inr}
 use mathlib.Core.Bool.{Bool, true, false, cond}
-use mathlib.Core.Option.{Option, none, some}
 use mathlib.Core.List.{List, [], _∷_, _++_, map, append-assoc}
 use lib.ListN.{length, take, drop, length-take}
 use lib.Seq.{take-at, drop-at, take-add, drop-drop}
@@ -17,16 +16,15 @@ use Rattle.text.proofs.Cases.{eq-or}
 use Rattle.paragraph.specs.View.{View, view, kids, child}
 use Rattle.paragraph.specs.Stream.{recordsIn}
 use Rattle.acceptance.specs.Keeps.{Keeps}
-use Rattle.paragraph.proofs.StreamLaws.{Stood, stood-of}
+use Rattle.paragraph.proofs.StreamLaws.{stood-of}
 use Rattle.filling.specs.Fields.{Field, fields, idOf, withId}
 use Rattle.filling.specs.Search.{Hit, hitOf, hits, Outcome, one, refused, outcome, search}
 use Rattle.records.specs.declared.fault.Offset.{Offset}
 use Rattle.records.specs.declared.fault.Fault.the-variants as F
-use Rattle.search.specs.Searching.{told, metNext, metWith, spanOf}
-use Rattle.fields.specs.Outcomes.{searchedOf}
+use Rattle.search.specs.Searching.{told, metWith, spanOf}
+use Rattle.fields.specs.Outcomes.{refusal, plainField}
 use Rattle.fields.specs.declared.outcome.Searched.{Searched}
 use Rattle.fields.specs.declared.outcome.Searched.the-variants as So
-use Rattle.records.specs.declared.fault.Fault.{Fault}
 use Rattle.records.specs.declared.fault.Refusal.{Refusal}
 use Rattle.filling.specs.Filling.{textAnswer}
 use Rattle.filling.specs.declared.TextAnswer.the-variants as T
@@ -35,6 +33,7 @@ use Rattle.text.proofs.UnitLaws.{length-units}
 use Rattle.paragraph.specs.Rules.{bytesIn}
 use Rattle.paragraph.specs.Places.{foundIn, unitPlace}
 use Rattle.search.specs.declared.seek.Hit as told-hit
+use Rattle.search.specs.declared.seek.Met.{Met}
 use Rattle.search.specs.declared.seek.Met.the-variants as M
 use Rattle.search.proofs.SearchLaws.{met-twice, TextAt, text-at}
 use Rattle.filling.specs.Editing.{Edit, editHere, editAt}
@@ -166,70 +165,44 @@ module _ (s : List ℕ) (bs : Bytes s) (id : ℕ) (h : Hit) (a : Sound s) (only 
   pub here-is : Located s 0 0 (recordsIn s) h
   here-is = located s bs id 0 0 (recordsIn s) refl (a .whole) (a .keep) h (subst (Met-in h) (sym only) (inl refl))
 
--- the search's outcome by what was met
-module _ (hs : List Hit) where
-  pub none-met : metWith M.Nothing hs ≡ M.Nothing → outcome hs ≡ refused F.NoField 0
-  unfolding outcome metWith
-  none-met e = go hs e
-    where
-      go : (l : List Hit) → metWith M.Nothing l ≡ M.Nothing → outcome l ≡ refused F.NoField 0
-      go [] q = refl
-      go (h ∷ []) q = absurd (let z : _≡_ {A = ℕ} 0 1 = cc in omega arith)
-      go (h ∷ k ∷ l) q = absurd (let y : M.Twice (record { 0 = k .control }) ≡ M.Nothing = sym (met-twice (record { 0 = k .control }) l) ∙ q in let z : _≡_ {A = ℕ} 0 1 = cc in omega arith)
+-- by what was met
+module _ {m : Met} {r : Searched} where
+  pub plain-none : m ≡ M.Nothing → r ≡ refusal F.NoField (record { 0 = 0 }) → r ≡ plainField m
+  unfolding plainField
+  plain-none e q = q ∙ sym (ap plainField e)
 
-  pub one-met : {x : told-hit.Hit} → metWith M.Nothing hs ≡ M.One x → (h : Hit) × (hs ≡ h ∷ []) × (told h ≡ x)
-  unfolding metWith
-  one-met {x} e = go hs e
-    where
-      go : (l : List Hit) → metWith M.Nothing l ≡ M.One x → (h : Hit) × (l ≡ h ∷ []) × (told h ≡ x)
-      go [] q = absurd (let z : _≡_ {A = ℕ} 0 1 = cc in omega arith)
-      go (h ∷ []) q = (h, refl, cc)
-      go (h ∷ k ∷ l) q = absurd (let y : M.Twice (record { 0 = k .control }) ≡ M.One x = sym (met-twice (record { 0 = k .control }) l) ∙ q in let z : _≡_ {A = ℕ} 0 1 = cc in omega arith)
+  pub plain-two : {p : Offset} → m ≡ M.Twice p → r ≡ refusal F.FieldTwice p → r ≡ plainField m
+  unfolding plainField
+  plain-two e q = q ∙ sym (ap plainField e)
 
-  pub two-met : {p : Offset} → metWith M.Nothing hs ≡ M.Twice p → outcome hs ≡ refused F.FieldTwice (p .0)
-  unfolding outcome metWith
-  two-met {p} e = go hs e
-    where
-      go : (l : List Hit) → metWith M.Nothing l ≡ M.Twice p → outcome l ≡ refused F.FieldTwice (p .0)
-      go [] q = absurd (let z : _≡_ {A = ℕ} 0 1 = cc in omega arith)
-      go (h ∷ []) q = absurd (let z : _≡_ {A = ℕ} 0 1 = cc in omega arith)
-      go (h ∷ k ∷ l) q =
-          let y : M.Twice (record { 0 = k .control }) ≡ M.Twice p = sym (met-twice (record { 0 = k .control }) l) ∙ q in
-          let z : _≡_ {A = Offset} (record { 0 = k .control }) p = cc in
-          ap (λ (o : Offset). refused F.FieldTwice (o .0)) z
+  module _ {h : told-hit.Hit} (e : m ≡ M.One h) where
+    pub plain-one : h .field .plain ≡ true → r ≡ So.One h → r ≡ plainField m
+    unfolding plainField
+    plain-one p q = q ∙ sym (ap plainField e ∙ rw p refl)
 
-  -- in the code's own types
-  module _ (id : ℕ) (rs : List Rec) (is : hits id 0 0 rs ≡ hs) where
-    search-is : search id rs ≡ outcome hs
-    unfolding search
-    search-is = ap outcome is
+    pub plain-not : h .field .plain ≡ false → r ≡ refusal F.FieldNotPlain (h .control) → r ≡ plainField m
+    unfolding plainField
+    plain-not p q = q ∙ sym (ap plainField e ∙ rw p refl)
 
-    abbrev refusal : Fault → Offset → Searched
-    refusal f p = So.Refused (record { fault = f; place = p })
+-- the search's outcome in the code's own types
+abbrev pub searchedOf : Outcome → Searched
+searchedOf (one h) = So.One (told h)
+searchedOf (refused f p) = refusal f (record { 0 = p })
 
-    pub searched-none : {r : Searched} → metWith M.Nothing hs ≡ M.Nothing → r ≡ refusal F.NoField (record { 0 = 0 }) → r ≡ searchedOf (search id rs)
-    searched-none e q = q ∙ sym (ap searchedOf (search-is ∙ none-met e))
+pub searched-cond : (b : Bool) (x y : Outcome) → searchedOf (cond b x y) ≡ cond b (searchedOf x) (searchedOf y)
+searched-cond true x y = refl
+searched-cond false x y = refl
 
-    pub searched-two : {r : Searched} {p : Offset} → metWith M.Nothing hs ≡ M.Twice p → r ≡ refusal F.FieldTwice p → r ≡ searchedOf (search id rs)
-    searched-two e q = q ∙ sym (ap searchedOf (search-is ∙ two-met e))
+-- is what was met
+outcome-met : (hs : List Hit) → plainField (metWith M.Nothing hs) ≡ searchedOf (outcome hs)
+unfolding outcome metWith plainField
+outcome-met [] = refl
+outcome-met (h ∷ []) = sym (searched-cond (h .field .plain) _ _)
+outcome-met (h ∷ k ∷ hs) = ap plainField (met-twice (record { 0 = k .control }) hs)
 
-    module _ {x : told-hit.Hit} (e : metWith M.Nothing hs ≡ M.One x) where
-      lone : outcome hs ≡ cond (one-met e .0 .field .plain) (one (one-met e .0)) (refused F.FieldNotPlain (one-met e .0 .control))
-      unfolding outcome
-      lone = ap outcome (one-met e .1)
-
-      plain-is : one-met e .0 .field .plain ≡ x .field .plain
-      plain-is = ap (λ (z : told-hit.Hit). z .field .plain) (one-met e .2)
-
-      pub searched-one : x .field .plain ≡ true → So.One x ≡ searchedOf (search id rs)
-      searched-one p =
-          sym (ap searchedOf (search-is ∙ lone ∙ ap (λ (b : Bool). cond b (one (one-met e .0)) (refused F.FieldNotPlain (one-met e .0 .control))) (plain-is ∙ p)) ∙ ap So.One (one-met e .2))
-
-      pub searched-not : {r : Searched} → x .field .plain ≡ false → r ≡ refusal F.FieldNotPlain (x .control) → r ≡ searchedOf (search id rs)
-      searched-not p q =
-          q
-          ∙ ap (λ (z : told-hit.Hit). refusal F.FieldNotPlain (z .control)) (sym (one-met e .2))
-          ∙ sym (ap searchedOf (search-is ∙ lone ∙ ap (λ (b : Bool). cond b (one (one-met e .0)) (refused F.FieldNotPlain (one-met e .0 .control))) (plain-is ∙ p)))
+pub field-met : (id : ℕ) (rs : List Rec) {m : Met} → m ≡ metWith M.Nothing (hits id 0 0 rs) → plainField m ≡ searchedOf (search id rs)
+unfolding search
+field-met id rs e = ap plainField e ∙ outcome-met (hits id 0 0 rs)
 
 -- ---- the one field
 

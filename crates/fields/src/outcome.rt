@@ -9,13 +9,7 @@ use search::Met;
 use search::SectionSearch;
 use search::search_section;
 ghost use mathlib.Core.Path.{_≡_};
-ghost use Rattle.paragraph.specs.Stream.{recordsIn};
-ghost use Rattle.filling.specs.Search as Search;
-ghost use Rattle.filling.specs.Filling.{textAnswer};
-ghost use Rattle.filling.specs.Search.{hits};
-ghost use Rattle.search.specs.Accepted.{Sound};
-ghost use Rattle.search.specs.Searching.{metWith};
-ghost use Rattle.fields.specs.Outcomes.{searchedOf};
+ghost use Rattle.fields.specs.Outcomes.{plainField};
 ghost use Rattle.fields.specs.Calls.{fieldTextAnswer};
 
 // One plain field with the id, or the refusal 21, 22 or 23.
@@ -31,9 +25,8 @@ pub fn no_field(fault: Fault, place: Offset) -> Searched
 }
 
 // The one plain field with the id, by what the search met.
-pub fn find_field(s: &[u8], id: u32, met: Met) -> Searched
-    requires { ⌜ met ≡ metWith Met.Nothing (hits id 0 0 (recordsIn (now s))) ⌝ }
-    ensures { λ r. ⌜ r ≡ searchedOf (Search.search id (recordsIn (now (s .entry)))) ⌝ }
+pub fn find_field(met: Met) -> Searched
+    ensures { λ r. ⌜ r ≡ plainField met ⌝ }
 {
     match met {
         Met::Nothing => no_field(Fault::NoField, Offset(0)),
@@ -49,32 +42,24 @@ pub fn find_field(s: &[u8], id: u32, met: Met) -> Searched
     }
 }
 
-// Where the text of the field starts, and how many bytes it has.
-fn text_in(s: &[u8], id: u32, met: Met) -> TextAnswer
-    requires { ⌜ Sound (now s) × (met ≡ metWith Met.Nothing (hits id 0 0 (recordsIn (now s)))) ⌝ }
-    ensures { λ r. ⌜ r ≡ textAnswer id (recordsIn (now (s .entry))) ⌝ }
-{
-    match find_field(s, id, met) {
-        Searched::Refused(r) => TextAnswer::Refused(r),
-        Searched::One(h) => {
-            let text = h.text;
-            let field = h.field;
-            let a = field.a;
-            let b = field.b;
-            TextAnswer::At {
-                place: unit_place(text, a),
-                length: 2 * (b.0 - a.0),
-            }
-        }
-    }
-}
-
 // The text of a field: the section's numbers without 7, then 21 to 23, else where it starts and how many bytes it has.
 pub fn field_text(s: &[u8], id: u32) -> TextAnswer
     ensures { λ r. ⌜ r ≡ fieldTextAnswer (now (s .entry)) id ⌝ }
 {
     match search_section(s, id) {
-        SectionSearch::Met(met) => text_in(s, id, met),
         SectionSearch::Refused(r) => TextAnswer::Refused(r),
+        SectionSearch::Met(met) => match find_field(met) {
+            Searched::Refused(r) => TextAnswer::Refused(r),
+            Searched::One(h) => {
+                let text = h.text;
+                let field = h.field;
+                let a = field.a;
+                let b = field.b;
+                TextAnswer::At {
+                    place: unit_place(text, a),
+                    length: 2 * (b.0 - a.0),
+                }
+            }
+        },
     }
 }

@@ -14,29 +14,22 @@ use search::search_section;
 use writing::measure;
 use writing::write;
 ghost use mathlib.Core.Path.{_≡_};
-ghost use Prim.Native.Nat.{_≤_};
 ghost use lib.ListN.{length};
-ghost use Rattle.records.specs.Records.{limit};
 ghost use Rattle.records.specs.Table.{written};
-ghost use Rattle.paragraph.specs.Stream.{recordsIn};
-ghost use Rattle.filling.specs.Filling.{fillable, fits, fillAnswer, fillBytes};
+ghost use Rattle.filling.specs.Filling.{fits};
 ghost use Rattle.writing.specs.Sheet as Sheet;
 ghost use Rattle.orders.specs.Calls.{fillOf, sheetOf};
-ghost use Rattle.filling.specs.Search.{hits};
-ghost use Rattle.search.specs.Accepted.{Sound};
-ghost use Rattle.search.specs.Searching.{metWith};
-ghost use Rattle.fields.specs.Outcomes.{searchedOf};
+ghost use Rattle.fields.specs.Outcomes.{fillableField};
 ghost use Rattle.fields.specs.Calls.{leaves, hitSheet};
 
 // The field that may be filled: 20, then 21 to 23, then 24.
-fn find_fillable(s: &[u8], id: u32, met: Met, value: &[u8]) -> Searched
-    requires { ⌜ met ≡ metWith Met.Nothing (hits id 0 0 (recordsIn (now s))) ⌝ }
-    ensures { λ r. ⌜ r ≡ searchedOf (fillable id (now (value .entry)) (recordsIn (now (s .entry)))) ⌝ }
+fn find_fillable(met: Met, value: &[u8]) -> Searched
+    ensures { λ r. ⌜ r ≡ fillableField (now (value .entry)) met ⌝ }
 {
     if value_wrong(value) {
         return no_field(Fault::ValueWrong, Offset(0));
     }
-    match find_field(s, id, met) {
+    match find_field(met) {
         Searched::Refused(r) => Searched::Refused(r),
         Searched::One(h) => {
             if h.marks == 0 {
@@ -67,17 +60,6 @@ fn put_sheet(s: &[u8], h: Hit, value: &[u8], out: &mut [u8]) -> Answer
     Answer::Accepted(n)
 }
 
-// The fill of a section that check accepted.
-fn fill_in(s: &[u8], id: u32, met: Met, value: &[u8], out: &mut [u8]) -> Answer
-    requires { ⌜ Sound (now s) × (length (now s) ≤ limit) × (met ≡ metWith Met.Nothing (hits id 0 0 (recordsIn (now s)))) ⌝ }
-    ensures { λ r. ⌜ (r ≡ fillAnswer id (now (value .entry)) (recordsIn (now (s .entry))) (length (now (out .entry)))) × (now (out .exit) ≡ written (fillBytes id (now (value .entry)) (recordsIn (now (s .entry))) (length (now (out .entry)))) (now (out .entry))) ⌝ }
-{
-    match find_fillable(s, id, met, value) {
-        Searched::Refused(r) => Answer::Refused(r),
-        Searched::One(h) => put_sheet(s, h, value, out),
-    }
-}
-
 // Fills the field with the id: the section's numbers without 7, then 20 to 26, else the length of the sheet, which stands at the front
 // of out. Bytes past it stay; a refusal changes no byte.
 pub fn fill(s: &[u8], id: u32, value: &[u8], out: &mut [u8]) -> Answer
@@ -85,7 +67,10 @@ pub fn fill(s: &[u8], id: u32, value: &[u8], out: &mut [u8]) -> Answer
     ensures sheet { λ _. ⌜ now (out .exit) ≡ written (sheetOf (now (s .entry)) id (now (value .entry)) (length (now (out .entry)))) (now (out .entry)) ⌝ }
 {
     match search_section(s, id) {
-        SectionSearch::Met(met) => fill_in(s, id, met, value, out),
         SectionSearch::Refused(r) => Answer::Refused(r),
+        SectionSearch::Met(met) => match find_fillable(met, value) {
+            Searched::Refused(r) => Answer::Refused(r),
+            Searched::One(h) => put_sheet(s, h, value, out),
+        },
     }
 }

@@ -1,9 +1,9 @@
 -- Extended controls and the control headers that they own. Assumes nothing.
-use Prim.Native.Nat.{ℕ, zero, suc, _+_, _-_, _*_, _≤_, _<_}
+use Prim.Native.Nat.{ℕ, _+_, _-_, _*_, _≤_, _<_}
 use native.Mathlib.Omega.{arith}
 use mathlib.Core.Path.{_≡_, refl, sym, ap, _∙_, subst}
 use mathlib.Core.Bool.{Bool, true, false, cond}
-use mathlib.Core.Option.{Option, none, some}
+use mathlib.Core.Option.{none, some}
 use mathlib.Core.List.{List, [], _∷_, _++_}
 use lib.Dec.{ltb, eqb}
 use lib.ListN.{length, take, drop}
@@ -20,7 +20,6 @@ use Rattle.text.specs.declared.Class.the-variants.{Extended}
 use Rattle.text.specs.declared.Control.{Control}
 use Rattle.text.specs.declared.Standing.{Standing}
 use Rattle.text.specs.declared.Standing.the-variants as T
-use Rattle.paragraph.specs.View.{kids, controls}
 use Rattle.paragraph.specs.Stream.{recordsIn}
 use Rattle.paragraph.specs.Rules.{guard, ownerOf, codeBefore, codesIn, fieldShort, fieldFault}
 use Rattle.paragraph.specs.Places.{foundIn, bodyOf, headerFound, ownedBy}

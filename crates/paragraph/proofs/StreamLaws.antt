@@ -1,9 +1,9 @@
 -- The records of a part of a stream, by the header at a place. Assumes nothing.
-use Prim.Native.Nat.{ℕ, zero, suc, _+_, _-_, _/_, _%_, _≤_, _<_}
+use Prim.Native.Nat.{ℕ, zero, suc, _+_, _-_, _≤_, _<_}
 use native.Mathlib.Omega.{arith}
-use mathlib.Core.Path.{_≡_, refl, sym, ap, ap₂, _∙_}
+use mathlib.Core.Path.{_≡_, refl, sym, ap, _∙_}
 use mathlib.Core.Bool.{Bool, true, false, cond}
-use mathlib.Core.Option.{Option, none, some}
+use mathlib.Core.Option.{none}
 use mathlib.Core.List.{List, [], _∷_, _++_}
 use lib.Dec.{ltb}
 use borrow.Author.Tests.{ltb-true, ltb-false}
@@ -16,8 +16,8 @@ use Rattle.records.specs.declared.fault.Fault.{Fault}
 use Rattle.records.specs.declared.header.Record.{Record}
 use Rattle.records.specs.declared.header.Ahead.{Ahead}
 use Rattle.records.specs.declared.header.Ahead.the-variants as N
-use Rattle.records.proofs.ReadingLaws.{Here, here, NoRecord, no-record, Found, found, size-least, length-encodeOne, stands-encode, encode-read, body-behind}
-use Rattle.numbers.proofs.LittleLaws.{bytes-drop, part-rest}
+use Rattle.records.proofs.ReadingLaws.{here, NoRecord, no-record, found, size-least, length-encodeOne, stands-encode, encode-read, body-behind}
+use Rattle.numbers.proofs.LittleLaws.{bytes-drop}
 use Rattle.paragraph.specs.Stream.{within, recordsIn}
 
 -- ---- the clauses

@@ -1,6 +1,6 @@
 -- The rules of one paragraph over its view, in document 01's order 8, 10, 11, 12, 13, 14, 15 ('Paragraphs' and 'Order'). No places here.
 use Prim.Native.Nat.{ℕ, _+_, _*_, _%_}
-use mathlib.Core.Bool.{Bool, true, false, cond, _&&_, _||_, not}
+use mathlib.Core.Bool.{Bool, true, false, _&&_, _||_, not}
 use mathlib.Core.Option.{Option, none, some}
 use mathlib.Core.List.{List, [], _∷_}
 use lib.Dec.{ltb, leb, eqb}
@@ -20,7 +20,6 @@ use Rattle.entries.specs.Entries.{shapesFault, marksFault}
 use Rattle.paragraph.specs.declared.finding.Counts.{Counts}
 use Rattle.paragraph.specs.declared.fields.Owner.{Owner}
 use Rattle.paragraph.specs.declared.fields.Owner.the-variants as O
-use Rattle.paragraph.specs.declared.finding.Which.{Which}
 use Rattle.paragraph.specs.declared.finding.Which.the-variants as W
 use Rattle.paragraph.specs.declared.finding.Finding.{Finding}
 use Rattle.paragraph.specs.declared.finding.Finding.the-variants as G

@@ -19,7 +19,6 @@ use Rattle.search.specs.Accepted.{Keep, Sound}
 use Rattle.search.specs.Searching.{metWith, sectionSearchOf, sectionSearch}
 use Rattle.search.specs.declared.seek.Met.{Met}
 use Rattle.search.specs.declared.seek.Met.the-variants as M
-use Rattle.search.specs.declared.seek.SectionSearch.{SectionSearch}
 use Rattle.search.specs.declared.seek.SectionSearch.the-variants as S
 
 pub record Sectioned (s : List ℕ) : Type 0 where
@@ -55,17 +54,24 @@ module _ (s : List ℕ) (id : ℕ) (x : Answer) (is : x ≡ checkAnswer s) where
 pub record Behind (s : List ℕ) (id : ℕ) (m : Met) : Type 0 where
   pub count : ℕ
   pub accepted : A.Accepted count ≡ checkAnswer s
-  pub met-is : m ≡ metWith M.Nothing (hits id 0 0 (readAll s .recs))
+  pub section : Sectioned s
+  pub met-is : m ≡ metWith M.Nothing (hits id 0 0 (recordsIn s))
 
 behind-by : (a : Answer) (m k : Met) → sectionSearchOf a k ≡ S.Met m → (n : ℕ) × (A.Accepted n ≡ a) × (m ≡ k)
 behind-by (A.Accepted n) m k e = (n, refl, cc)
 behind-by (A.Refused r) m k e = absurd (let z : _≡_ {A = ℕ} 0 1 = cc in omega arith)
 
-pub behind : (s : List ℕ) (id : ℕ) (m : Met) → sectionSearch s id ≡ S.Met m → Behind s id m
+pub behind : (s : List ℕ) (id : ℕ) (m : Met) → Bytes s → sectionSearch s id ≡ S.Met m → Behind s id m
 unfolding sectionSearch
-behind s id m e =
+behind s id m bs e =
     let k = behind-by (checkAnswer s) m (metWith M.Nothing (hits id 0 0 (readAll s .recs))) e in
-    record { count = k .0; accepted = k .1; met-is = k .2 }
+    let g = sectioned s bs (k .0) (sym (k .1)) in
+    record {
+      count = k .0;
+      accepted = k .1;
+      section = g;
+      met-is = k .2 ∙ ap (λ (l : List Rec). metWith M.Nothing (hits id 0 0 l)) (sym (g .records));
+    }
 
 refused-by : (a : Answer) (r : Refusal) (k : Met) → sectionSearchOf a k ≡ S.Refused r → A.Refused r ≡ a
 refused-by (A.Accepted n) r k e = absurd (let z : _≡_ {A = ℕ} 0 1 = cc in omega arith)

@@ -1,19 +1,19 @@
 -- A paragraph with nothing but records 67 to 70 below it has no field. Assumes nothing.
-use Prim.Native.Nat.{ℕ, zero, suc, _+_, _-_, _≤_, _<_}
+use Prim.Native.Nat.{ℕ, zero, suc, _+_, _-_, _≤_}
 use native.Mathlib.Omega.{arith}
 use mathlib.Core.Path.{_≡_, refl, sym, ap, _∙_}
 use mathlib.Core.Logic.{inl, inr}
 use mathlib.Core.Bool.{Bool, true, false}
 use mathlib.Core.List.{List, [], _∷_}
 use lib.Dec.{eqb}
-use lib.ListN.{length, drop}
-use borrow.Author.Tests.{eq-eqb, ne-eqb, eqb-true, eqb-false}
+use lib.ListN.{drop}
+use borrow.Author.Tests.{eq-eqb, ne-eqb}
 use Rattle.numbers.specs.Little.{Bytes}
 use Rattle.records.specs.Records.{Rec, size}
 use Rattle.records.specs.Reading.{offset}
 use Rattle.records.specs.declared.fault.Offset.{Offset}
 use Rattle.records.specs.declared.header.Record.{Record}
-use Rattle.text.specs.Walk.{among, classOf, control, what, width, Token, walk, isExtended, extendedIn}
+use Rattle.text.specs.Walk.{among, classOf, what, width, walk, isExtended, extendedIn}
 use Rattle.text.proofs.Cases.{lt-or, eq-or}
 use Rattle.text.proofs.TableLaws.{what-control, what-ordinary}
 use Rattle.paragraph.specs.View.{side, kids, controls}
@@ -29,7 +29,6 @@ use Rattle.filling.proofs.SearchLaws.{hits-past}
 use Rattle.filling.proofs.EditLaws.{which, is-beyond, is-owned, is-passed}
 use Rattle.search.specs.Accepted.{Keep}
 use Rattle.search.specs.Searching.{partBy, partOf, bareIn}
-use Rattle.search.specs.declared.passing.Until.{Until}
 use Rattle.search.specs.declared.passing.Until.the-variants as U
 
 -- ---- no extended control, no field

@@ -1,25 +1,21 @@
 -- The unit that closes a field is the next below 32. Assumes nothing.
 use Prim.Native.Nat.{ℕ, _+_}
 use mathlib.Core.Path.{_≡_, refl, sym, ap, _∙_}
-use mathlib.Core.Logic.{inl, inr}
 use mathlib.Core.Option.{none}
-use mathlib.Core.List.{List, [], _∷_, _++_, append-nil}
+use mathlib.Core.List.{List, [], _∷_, _++_}
 use lib.ListN.{take, drop}
 use Rattle.text.specs.Walk.{Token, tokensAt, faultAt, run}
 use Rattle.text.specs.Answers.{controlAt}
 use Rattle.text.specs.declared.Position.{Position}
 use Rattle.text.specs.declared.Cursor.{Cursor}
 use Rattle.text.specs.declared.Standing.{Standing}
-use Rattle.text.specs.declared.Standing.the-variants.{Ordinary, Control}
 use Rattle.text.specs.declared.Step.{Step}
 use Rattle.text.specs.declared.Step.the-variants.{Stands}
-use Rattle.text.proofs.WalkLaws.{Ended}
 use Rattle.text.proofs.PartLaws.{singles}
-use Rattle.text.proofs.ControlLaws.{Reached, control-stands, NoControl, none-stands}
+use Rattle.text.proofs.ControlLaws.{control-stands, NoControl, none-stands}
 use Rattle.filling.specs.Fields.{next}
 use Rattle.filling.proofs.FieldLaws.{next-control}
 use Rattle.search.specs.Searching.{closingOf, closingBy}
-use Rattle.search.specs.declared.seek.Closing.{Closing}
 
 -- ordinary units close nothing
 next-singles : (p : ℕ) (x : List ℕ) (ts : List Token) → next (singles p x ++ ts) ≡ next ts

@@ -1,8 +1,8 @@
 -- The id in a field's control header, by the bytes that are there. Assumes nothing.
 use Prim.Native.Nat.{ℕ, _+_, _-_, _*_, _≤_, _<_}
 use native.Mathlib.Omega.{arith}
-use mathlib.Core.Path.{_≡_, refl, sym, ap, _∙_}
-use mathlib.Core.List.{List, []}
+use mathlib.Core.Path.{_≡_, sym, ap, _∙_}
+use mathlib.Core.List.{List}
 use lib.ListN.{length, take, drop, drop-of-length-le}
 use Rattle.numbers.specs.Little.{little}
 use Rattle.numbers.proofs.LittleLaws.{part-rest}

@@ -1,5 +1,5 @@
 -- The search: what it still meets, from a record on and from a position of a paragraph's text on. Assumes nothing.
-use Prim.Native.Nat.{ℕ, zero, suc, _+_, _-_, _≤_, _<_}
+use Prim.Native.Nat.{ℕ, suc, _+_, _-_, _≤_, _<_}
 use native.Mathlib.Omega.{arith}
 use native.Mathlib.Numerals.{add-one}
 use native.Mathlib.Nat.{zero-add, add-zero}
@@ -17,9 +17,8 @@ use Rattle.records.specs.Reading.{offset}
 use Rattle.records.specs.declared.fault.Offset.{Offset}
 use Rattle.records.specs.declared.header.Record.{Record}
 use Rattle.text.specs.Units.{units}
-use Rattle.text.specs.Walk.{what, Token, walk, tokens, tokensAt, isExtended, extendedIn, extendedCount, fault, faultAt, textFault, run}
+use Rattle.text.specs.Walk.{what, Token, tokens, tokensAt, isExtended, extendedIn, extendedCount, fault, faultAt, textFault, run}
 use Rattle.text.specs.Answers.{place as position}
-use Rattle.text.specs.declared.Position.{Position}
 use Rattle.text.specs.declared.Class.{Class}
 use Rattle.text.specs.declared.Class.the-variants.{Character, Inline, Extended}
 use Rattle.text.specs.declared.Control.{Control}
@@ -33,7 +32,7 @@ use Rattle.records.proofs.ReadingLaws.{size-least}
 use Rattle.paragraph.specs.View.{View, view, kids, child, controls}
 use Rattle.paragraph.specs.Stream.{recordsIn}
 use Rattle.paragraph.specs.Places.{foundIn, placeFound, bodyOf, bodyFound, ownedBy, Inside}
-use Rattle.paragraph.specs.Rules.{bytesIn, countsOf, ownerOf}
+use Rattle.paragraph.specs.Rules.{bytesIn, ownerOf}
 use Rattle.paragraph.specs.declared.children.Found.{Found}
 use Rattle.paragraph.specs.declared.children.Found.the-variants as P
 use Rattle.paragraph.specs.declared.fields.Owner.{Owner}

@@ -1,6 +1,6 @@
 -- What the search's steps come to, in the code's own types (document 01, 'The field search').
 use Prim.Native.Nat.{ℕ, suc, _+_}
-use mathlib.Core.Bool.{Bool, true, false, cond}
+use mathlib.Core.Bool.{false, cond}
 use mathlib.Core.Option.{Option, none, some}
 use mathlib.Core.List.{List, [], _∷_}
 use lib.Dec.{eqb}
@@ -27,7 +27,6 @@ use Rattle.paragraph.specs.declared.children.Found.{Found}
 use Rattle.paragraph.specs.declared.children.Found.the-variants as P
 use Rattle.filling.specs.Fields.{idIn}
 use Rattle.filling.specs.Search as Search
-use Rattle.search.specs.declared.seek.Field.{Field}
 use Rattle.search.specs.declared.seek.Hit.{Hit}
 use Rattle.search.specs.declared.seek.Met.{Met}
 use Rattle.search.specs.declared.seek.Met.the-variants as M

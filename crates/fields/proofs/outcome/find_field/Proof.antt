@@ -1,6 +1,6 @@
 -- The one plain field, by what was met. Assumes nothing.
-use mathlib.Core.Path.{refl, sym, _∙_}
-use Rattle.fields.proofs.LocateLaws.{searched-none, searched-two, searched-one, searched-not}
+use mathlib.Core.Path.{refl}
+use Rattle.fields.proofs.LocateLaws.{plain-none, plain-two, plain-one, plain-not}
 use borrow.Author.Needs.{needs}
 use Rattle.fields.proofs.outcome.find_field.Statement.{statement}
 use Rattle.fields.proofs.outcome.find_field.Tie as tie
@@ -27,16 +27,16 @@ no-field-requires-3 : tie.Need-no-field-requires-3
 no-field-requires-3 c κs = search needs
 
 returns : tie.Need-returns
-returns c = searched-none _ _ _ refl (sym (c .before .before .before .before .pre) ∙ c .before .enum-told .given .1) (c .no-field .ensures)
+returns c = plain-none (c .before .enum-told .given .1) (c .no-field .ensures)
 
 returns-2 : tie.Need-returns-2
-returns-2 c = searched-two _ _ _ refl (sym (c .before .before .before .before .before .pre) ∙ c .before .before .met .given .1) (c .no-field2 .ensures)
+returns-2 c = plain-two (c .before .before .met .given .1) (c .no-field2 .ensures)
 
 returns-3 : tie.Need-returns-3
-returns-3 c = searched-one _ _ _ refl (sym (c .before .before .before .before .before .before .pre) ∙ c .before .before .before .met2 .given .1) (c .if1 .taken)
+returns-3 c = plain-one (c .before .before .before .met2 .given .1) (c .if1 .taken) refl
 
 returns-4 : tie.Need-returns-4
-returns-4 c = searched-not _ _ _ refl (sym (c .before .before .before .before .before .before .before .pre) ∙ c .before .before .before .before .met2 .given .1) (c .before .if1 .left) (c .no-field3 .ensures)
+returns-4 c = plain-not (c .before .before .before .before .met2 .given .1) (c .before .if1 .left) (c .no-field3 .ensures)
 
 pub find-field-spec : {M : Type 1} → statement M
 find-field-spec =

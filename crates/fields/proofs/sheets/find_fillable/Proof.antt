@@ -1,6 +1,6 @@
--- The field that may be filled is that of `fillable`. Assumes nothing.
+-- The field that may be filled: 20, then the field, then 24. Assumes nothing.
 use mathlib.Core.Path.{sym, _∙_}
-use Rattle.fields.proofs.FillLaws.{fillable-wrong, fillable-refused, fillable-one, fillable-marked}
+use Rattle.fields.proofs.FillLaws.{exit-wrong, exit-refused, exit-one, exit-marked}
 use borrow.Author.Needs.{needs}
 use Rattle.fields.proofs.sheets.find_fillable.Statement.{statement}
 use Rattle.fields.proofs.sheets.find_fillable.Tie as tie
@@ -17,7 +17,7 @@ no-field-requires : tie.Need-no-field-requires
 no-field-requires c κs = search needs
 
 returns : tie.Need-returns
-returns c = c .no-field .ensures ∙ fillable-wrong _ _ _ (sym (c .before .before .value-wrong .ensures) ∙ c .before .if1 .taken)
+returns c = c .no-field .ensures ∙ exit-wrong _ _ (sym (c .before .before .value-wrong .ensures) ∙ c .before .if1 .taken)
 
 find-field-requires : tie.Need-find-field-requires
 find-field-requires c κs = search needs
@@ -32,13 +32,13 @@ no-field-requires-2 : tie.Need-no-field-requires-2
 no-field-requires-2 c κs = search needs
 
 returns-2 : tie.Need-returns-2
-returns-2 c = fillable-refused _ _ _ (sym (c .before .before .before .before .before .value-wrong .ensures) ∙ c .before .before .before .before .if1 .left) _ (c .before .before .before .find-field .ensures) _ (c .before .r .given .1)
+returns-2 c = exit-refused _ _ (sym (c .before .before .before .before .before .value-wrong .ensures) ∙ c .before .before .before .before .if1 .left) (c .before .before .before .find-field .ensures) _ (c .before .r .given .1)
 
 returns-3 : tie.Need-returns-3
-returns-3 c = fillable-one _ _ _ (sym (c .before .before .before .before .before .before .before .value-wrong .ensures) ∙ c .before .before .before .before .before .before .if1 .left) _ (c .before .before .before .before .before .find-field .ensures) _ (c .before .before .before .h .given .1) (c .if2 .taken)
+returns-3 c = exit-one _ _ (sym (c .before .before .before .before .before .before .before .value-wrong .ensures) ∙ c .before .before .before .before .before .before .if1 .left) (c .before .before .before .before .before .find-field .ensures) _ (c .before .before .before .h .given .1) (c .if2 .taken)
 
 returns-4 : tie.Need-returns-4
-returns-4 c = c .no-field2 .ensures ∙ fillable-marked _ _ _ (sym (c .before .before .before .before .before .before .before .before .value-wrong .ensures) ∙ c .before .before .before .before .before .before .before .if1 .left) _ (c .before .before .before .before .before .before .find-field .ensures) _ (c .before .before .before .before .h .given .1) (c .before .if2 .left)
+returns-4 c = c .no-field2 .ensures ∙ exit-marked _ _ (sym (c .before .before .before .before .before .before .before .before .value-wrong .ensures) ∙ c .before .before .before .before .before .before .before .if1 .left) (c .before .before .before .before .before .before .find-field .ensures) _ (c .before .before .before .before .h .given .1) (c .before .if2 .left)
 
 pub find-fillable-spec : {M : Type 1} → statement M
 find-fillable-spec =

@@ -1,5 +1,5 @@
 -- A record stands to a search as `sought` has it. Assumes nothing.
-use mathlib.Core.Path.{sym, _∙_}
+use mathlib.Core.Path.{sym}
 use borrow.Author.Needs.{needs}
 use Rattle.paragraph.proofs.FindLaws.{sought-beyond, sought-passed, sought-owned, sought-other}
 use Rattle.paragraph.proofs.children.seeks.Statement.{statement}

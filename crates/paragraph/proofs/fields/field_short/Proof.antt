@@ -1,5 +1,4 @@
 -- A field's control header is too short as `fieldShort` has it. Assumes nothing.
-use Prim.Native.Nat.{_+_}
 use mathlib.Core.Path.{ap, _∙_}
 use Rattle.numbers.specs.Little.{little}
 use Rattle.numbers.proofs.LittleLaws.{part-rest}

@@ -1,6 +1,6 @@
 -- The place of a position is what `unitPlace` has. Assumes nothing.
 use native.Mathlib.Omega.{arith}
-use Prim.Native.Nat.{ℕ, _+_, _*_, min}
+use Prim.Native.Nat.{_+_, _*_, min}
 use mathlib.Core.Path.{_≡_, ap}
 use Rattle.records.specs.Reading.{offset}
 use borrow.Author.Needs.{needs}
