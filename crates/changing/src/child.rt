@@ -1,7 +1,9 @@
 // The records of the filled paragraph, by kind.
 use filling::with_bit_15;
+use numbers::lesser;
 use numbers::number32;
 use numbers::part;
+use numbers::wide;
 use paragraph::unit_place;
 use putting::Change;
 use putting::less;
@@ -11,7 +13,6 @@ use putting::put_low;
 use putting::put_part;
 use putting::put_rest;
 use putting::put_run;
-use putting::wide;
 use records::Kind;
 use records::Offset;
 use records::Record;
@@ -42,18 +43,12 @@ pub fn put_same(out: &mut [u8], at: Offset, r: Record, body: &[u8]) -> Offset
     put_run(out, p, body)
 }
 
-fn least(n: usize, m: usize) -> usize
-    ensures { λ r. ⌜ r ≡ min n m ⌝ }
-{
-    if n < m { n } else { m }
-}
-
 // The first byte of a position in a text of this length, or the text's end.
 fn byte_of(position: Position, length: usize) -> usize
     ensures { λ r. ⌜ r ≡ min (2 * position .0) length ⌝ }
 {
     let place = unit_place(Offset(0), position);
-    least(place.0, length)
+    lesser(place.0, length)
 }
 
 // Puts the text: from a to b it is the value.
@@ -92,7 +87,7 @@ fn put_altered(out: &mut [u8], at: Offset, r: Record, body: &[u8]) -> Offset
     requires { ⌜ Narrow (now body) ⌝ }
     ensures { λ next. ⌜ Puts (now (out .entry)) (at .0) (encodeOne (recordWith r (altered (now (body .entry))))) (next .0) (now (out .exit)) ⌝ }
 {
-    let front = least(4, body.len());
+    let front = lesser(4, body.len());
     let rest = less(body.len(), 8);
     let properties = number32(part(body, 4, body.len()));
     let p = put_head(out, at, r.tag, r.level, front + 4 + rest);

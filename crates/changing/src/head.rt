@@ -1,5 +1,6 @@
 // The paragraph header after a fill.
 use numbers::number32;
+use numbers::wide;
 use putting::Change;
 use putting::between;
 use putting::less;
@@ -7,7 +8,6 @@ use putting::put_head;
 use putting::put_low;
 use putting::put_part;
 use putting::put_rest;
-use putting::wide;
 use records::Offset;
 use records::Record;
 ghost use mathlib.Core.Path.{_≡_};

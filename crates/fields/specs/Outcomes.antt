@@ -13,6 +13,7 @@ use Rattle.search.specs.declared.seek.Met.the-variants as M
 use Rattle.fields.specs.declared.outcome.Searched.{Searched}
 use Rattle.fields.specs.declared.outcome.Searched.the-variants as So
 
+-- a fault at its place
 abbrev pub refusal : Fault → Offset → Searched
 refusal f p = So.Refused (record { fault = f; place = p })
 

@@ -12,7 +12,7 @@ ghost use mathlib.Core.Path.{_≡_};
 ghost use Rattle.fields.specs.Outcomes.{plainField};
 ghost use Rattle.fields.specs.Calls.{fieldTextAnswer};
 
-// One plain field with the id, or the refusal 21, 22 or 23.
+// One plain field with the id, or a refusal: 21 to 23, for a fill 20 and 24 too.
 pub enum Searched {
     One(Hit),
     Refused(Refusal),

@@ -17,7 +17,6 @@ ghost use mathlib.Core.Path.{_≡_};
 ghost use lib.ListN.{length};
 ghost use Rattle.records.specs.Table.{written};
 ghost use Rattle.filling.specs.Filling.{fits};
-ghost use Rattle.writing.specs.Sheet as Sheet;
 ghost use Rattle.orders.specs.Calls.{fillOf, sheetOf};
 ghost use Rattle.fields.specs.Outcomes.{fillableField};
 ghost use Rattle.fields.specs.Calls.{leaves, hitSheet};

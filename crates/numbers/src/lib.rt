@@ -1,20 +1,34 @@
 // Numbers of 16 and 32 bits at the front of a slice, the lowest byte first; and parts of a slice.
 ghost use mathlib.Core.Path.{_≡_};
-ghost use Prim.Native.Nat.{_<_};
+ghost use Prim.Native.Nat.{_<_, min};
 ghost use lib.ListN.{getD, take, drop};
 ghost use Rattle.numbers.specs.Little.{little, bytesOf, laid};
 
-fn wide(x: u8) -> u32
+fn of_byte(x: u8) -> u32
     ensures { λ r. ⌜ (r ≡ x) × (r < 256) ⌝ }
 {
     x as u32
+}
+
+// 32 bits as a number that counts and indexes.
+pub fn wide(x: u32) -> usize
+    ensures { λ r. ⌜ (r ≡ x) × (r < 4294967296) ⌝ }
+{
+    x as usize
+}
+
+// The lesser of two numbers.
+pub fn lesser(a: usize, b: usize) -> usize
+    ensures { λ r. ⌜ r ≡ min a b ⌝ }
+{
+    if a < b { a } else { b }
 }
 
 // The byte at i, or 0 where there is none.
 fn byte(s: &[u8], i: usize) -> u32
     ensures { λ r. ⌜ (r ≡ getD (now (s .entry)) i 0) × (r < 256) ⌝ }
 {
-    if i < s.len() { wide(s[i]) } else { 0 }
+    if i < s.len() { of_byte(s[i]) } else { 0 }
 }
 
 // The 16 bits at the front of s.
@@ -24,7 +38,7 @@ pub fn number16(s: &[u8]) -> u32
     if s.len() < 2 {
         return byte(s, 0);
     }
-    wide(s[0]) + 256 * wide(s[1])
+    of_byte(s[0]) + 256 * of_byte(s[1])
 }
 
 // The 32 bits at the front of s.
@@ -34,7 +48,7 @@ pub fn number32(s: &[u8]) -> u32
     if s.len() < 4 {
         return byte(s, 0) + 256 * byte(s, 1) + 65536 * byte(s, 2);
     }
-    wide(s[0]) + 256 * wide(s[1]) + 65536 * wide(s[2]) + 16777216 * wide(s[3])
+    of_byte(s[0]) + 256 * of_byte(s[1]) + 65536 * of_byte(s[2]) + 16777216 * of_byte(s[3])
 }
 
 // Writes 16 bits at the front of out; where there is no room nothing is written.

@@ -1,5 +1,6 @@
 // Judging a table before a byte of it is written.
 use crate::put::lead;
+use numbers::wide;
 use records::Fault;
 use records::Offset;
 use records::bits;
@@ -40,12 +41,6 @@ pub enum Verdict {
 }
 
 // Widens to an index or a length.
-pub fn wide(x: u32) -> usize
-    ensures { λ r. ⌜ (r ≡ x) × (r < 4294967296) ⌝ }
-{
-    x as usize
-}
-
 // A row whose level may be at most cap, over `lent` bytes: 5, 6, 4.
 fn row(tag: u32, level: u32, place: Offset, length: usize, cap: u32, lent: usize) -> Verdict
     requires { ⌜ (place .0 < 4294967296) × (length < 4294967296) ⌝ }

@@ -1,8 +1,8 @@
 // Packing: judge the whole table first, then lay its records one behind the other.
 use crate::judge::Packed;
 use crate::judge::judge;
-use crate::judge::wide;
 use crate::put::put_record;
+use numbers::wide;
 ghost use mathlib.Core.Path.{_≡_};
 ghost use Prim.Native.Nat.{_≤_};
 ghost use lib.ListN.{length};

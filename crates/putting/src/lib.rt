@@ -11,4 +11,3 @@ pub use shapes::Change;
 pub use shapes::between;
 pub use shapes::less;
 pub use shapes::put_entries;
-pub use shapes::wide;

@@ -2,6 +2,7 @@
 use crate::put::put_low;
 use crate::put::put_part;
 use numbers::number32;
+use numbers::wide;
 use records::Offset;
 use text::Position;
 ghost use mathlib.Core.Path.{_≡_};
@@ -16,12 +17,6 @@ pub struct Change {
     pub a: Position,
     pub b: Position,
     pub v: u32,
-}
-
-pub fn wide(x: u32) -> usize
-    ensures { λ r. ⌜ (r ≡ x) × (r < 4294967296) ⌝ }
-{
-    x as usize
 }
 
 // n less m, or 0 where m is more.

@@ -5,8 +5,9 @@ use crate::fault::Offset;
 use crate::fault::refused;
 use crate::header::Ahead;
 use crate::header::record_at;
+use numbers::lesser;
 ghost use mathlib.Core.Path.{_≡_};
-ghost use Prim.Native.Nat.{_≤_, min};
+ghost use Prim.Native.Nat.{_≤_};
 ghost use lib.ListN.{length};
 ghost use Rattle.records.specs.Records.{limit};
 ghost use Rattle.records.specs.Reading.{readAll};
@@ -47,12 +48,6 @@ pub fn scan(s: &[u8], room: usize) -> Answer
     } else {
         refused(Fault::NoRoom, over)
     }
-}
-
-fn lesser(a: usize, b: usize) -> usize
-    ensures { λ r. ⌜ r ≡ min a b ⌝ }
-{
-    if a < b { a } else { b }
 }
 
 // How many records have room in four lists: as many as the shortest has entries.

@@ -5,6 +5,7 @@ use crate::passing::look_at;
 use numbers::number16;
 use numbers::number32;
 use numbers::part;
+use numbers::wide;
 use paragraph::Owned;
 use paragraph::body;
 use paragraph::owned_header;
@@ -85,12 +86,6 @@ pub struct Seen {
     pub passed: Passed,
     pub field: bool,
     pub control: Offset,
-}
-
-fn wide(x: u32) -> usize
-    ensures { λ r. ⌜ (r ≡ x) × (r < 4294967296) ⌝ }
-{
-    x as usize
 }
 
 // The id in a field's control header; a byte that is not there counts as 0.

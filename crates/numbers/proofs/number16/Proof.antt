@@ -6,7 +6,7 @@ use Rattle.numbers.proofs.number16.Tie as tie
 use Rattle.numbers.proofs.number16.Reads as reads
 use Rattle.numbers.proofs.number16.Lts as lts
 use Rattle.numbers.proofs.byte.Reads as byte-reads
-use Rattle.numbers.proofs.wide.Reads as wide-reads
+use Rattle.numbers.proofs.of_byte.Reads as of-byte-reads
 
 byte-requires : tie.Need-byte-requires
 byte-requires c κs = search needs
@@ -14,17 +14,17 @@ byte-requires c κs = search needs
 returns : tie.Need-returns
 returns c = omega (arith, two-short (c .before .before .before .args .s .now) (c .before .if1 .taken))
 
-shared-slice-read-wide : tie.Need-shared-slice-read-wide
-shared-slice-read-wide c = search needs
+shared-slice-read-of-byte : tie.Need-shared-slice-read-of-byte
+shared-slice-read-of-byte c = search needs
 
-wide-requires : tie.Need-wide-requires
-wide-requires c κs = search needs
+of-byte-requires : tie.Need-of-byte-requires
+of-byte-requires c κs = search needs
 
-shared-slice-read-wide-2 : tie.Need-shared-slice-read-wide-2
-shared-slice-read-wide-2 c = search needs
+shared-slice-read-of-byte-2 : tie.Need-shared-slice-read-of-byte-2
+shared-slice-read-of-byte-2 c = search needs
 
-wide-requires-2 : tie.Need-wide-requires-2
-wide-requires-2 c κs = search needs
+of-byte-requires-2 : tie.Need-of-byte-requires-2
+of-byte-requires-2 c κs = search needs
 
 mul-result : tie.Need-mul-result
 mul-result c = search needs
@@ -41,10 +41,10 @@ number16-spec =
     (tie.spec
     byte-requires
     returns
-    shared-slice-read-wide
-    wide-requires
-    shared-slice-read-wide-2
-    wide-requires-2
+    shared-slice-read-of-byte
+    of-byte-requires
+    shared-slice-read-of-byte-2
+    of-byte-requires-2
     mul-result
     add-result
     returns-2)

@@ -6,7 +6,7 @@ use Rattle.numbers.proofs.number32.Tie as tie
 use Rattle.numbers.proofs.number32.Reads as reads
 use Rattle.numbers.proofs.number32.Lts as lts
 use Rattle.numbers.proofs.byte.Reads as byte-reads
-use Rattle.numbers.proofs.wide.Reads as wide-reads
+use Rattle.numbers.proofs.of_byte.Reads as of-byte-reads
 
 byte-requires : tie.Need-byte-requires
 byte-requires c κs = search needs
@@ -32,17 +32,17 @@ add-result-2 c = search needs
 returns : tie.Need-returns
 returns c = omega (arith, four-short (c .before .before .before .before .before .args .s .now) (c .before .before .before .if1 .taken))
 
-shared-slice-read-wide : tie.Need-shared-slice-read-wide
-shared-slice-read-wide c = search needs
+shared-slice-read-of-byte : tie.Need-shared-slice-read-of-byte
+shared-slice-read-of-byte c = search needs
 
-wide-requires : tie.Need-wide-requires
-wide-requires c κs = search needs
+of-byte-requires : tie.Need-of-byte-requires
+of-byte-requires c κs = search needs
 
-shared-slice-read-wide-2 : tie.Need-shared-slice-read-wide-2
-shared-slice-read-wide-2 c = search needs
+shared-slice-read-of-byte-2 : tie.Need-shared-slice-read-of-byte-2
+shared-slice-read-of-byte-2 c = search needs
 
-wide-requires-2 : tie.Need-wide-requires-2
-wide-requires-2 c κs = search needs
+of-byte-requires-2 : tie.Need-of-byte-requires-2
+of-byte-requires-2 c κs = search needs
 
 mul-result-3 : tie.Need-mul-result-3
 mul-result-3 c = search needs
@@ -50,11 +50,11 @@ mul-result-3 c = search needs
 add-result-3 : tie.Need-add-result-3
 add-result-3 c = search needs
 
-shared-slice-read-wide-3 : tie.Need-shared-slice-read-wide-3
-shared-slice-read-wide-3 c = search needs
+shared-slice-read-of-byte-3 : tie.Need-shared-slice-read-of-byte-3
+shared-slice-read-of-byte-3 c = search needs
 
-wide-requires-3 : tie.Need-wide-requires-3
-wide-requires-3 c κs = search needs
+of-byte-requires-3 : tie.Need-of-byte-requires-3
+of-byte-requires-3 c κs = search needs
 
 mul-result-4 : tie.Need-mul-result-4
 mul-result-4 c = search needs
@@ -62,11 +62,11 @@ mul-result-4 c = search needs
 add-result-4 : tie.Need-add-result-4
 add-result-4 c = search needs
 
-shared-slice-read-wide-4 : tie.Need-shared-slice-read-wide-4
-shared-slice-read-wide-4 c = search needs
+shared-slice-read-of-byte-4 : tie.Need-shared-slice-read-of-byte-4
+shared-slice-read-of-byte-4 c = search needs
 
-wide-requires-4 : tie.Need-wide-requires-4
-wide-requires-4 c κs = search needs
+of-byte-requires-4 : tie.Need-of-byte-requires-4
+of-byte-requires-4 c κs = search needs
 
 mul-result-5 : tie.Need-mul-result-5
 mul-result-5 c = search needs
@@ -89,18 +89,18 @@ number32-spec =
     mul-result-2
     add-result-2
     returns
-    shared-slice-read-wide
-    wide-requires
-    shared-slice-read-wide-2
-    wide-requires-2
+    shared-slice-read-of-byte
+    of-byte-requires
+    shared-slice-read-of-byte-2
+    of-byte-requires-2
     mul-result-3
     add-result-3
-    shared-slice-read-wide-3
-    wide-requires-3
+    shared-slice-read-of-byte-3
+    of-byte-requires-3
     mul-result-4
     add-result-4
-    shared-slice-read-wide-4
-    wide-requires-4
+    shared-slice-read-of-byte-4
+    of-byte-requires-4
     mul-result-5
     add-result-5
     returns-2)

@@ -7,16 +7,16 @@ use Rattle.changing.proofs.child.byte_of.Tie as tie
 use Rattle.changing.proofs.child.byte_of.Reads as reads
 use Rattle.changing.proofs.child.byte_of.Lts as lts
 use Rattle.paragraph.proofs.unit_place.Reads as unit-place-reads
-use Rattle.changing.proofs.child.least.Reads as least-reads
+use Rattle.numbers.proofs.lesser.Reads as lesser-reads
 
 unit-place-requires : tie.Need-unit-place-requires
 unit-place-requires c κs = search needs
 
-least-requires : tie.Need-least-requires
-least-requires c κs = search needs
+lesser-requires : tie.Need-lesser-requires
+lesser-requires c κs = search needs
 
 returns : tie.Need-returns
-returns c = byte-is _ _ (omega arith) (c .before .unit-place .ensures) (c .least .ensures)
+returns c = byte-is _ _ (omega arith) (c .before .unit-place .ensures) (c .lesser .ensures)
 
 pub byte-of-spec : {M : Type 1} → statement M
-byte-of-spec = tie.close (tie.spec unit-place-requires least-requires returns)
+byte-of-spec = tie.close (tie.spec unit-place-requires lesser-requires returns)

@@ -11,16 +11,16 @@ use Rattle.changing.proofs.child.put_altered.Lts as lts
 use Rattle.filling.proofs.with_bit_15.Reads as with-bit-15-reads
 use Rattle.numbers.proofs.number32.Reads as number32-reads
 use Rattle.numbers.proofs.part.Reads as part-reads
-use Rattle.changing.proofs.child.least.Reads as least-reads
+use Rattle.numbers.proofs.lesser.Reads as lesser-reads
 use Rattle.putting.proofs.put_head.Reads as put-head-reads
 use Rattle.putting.proofs.put_low.Reads as put-low-reads
 use Rattle.putting.proofs.put_part.Reads as put-part-reads
 use Rattle.putting.proofs.put_rest.Reads as put-rest-reads
 use Rattle.putting.proofs.less.Reads as less-reads
-use Rattle.putting.proofs.wide.Reads as wide-reads
+use Rattle.numbers.proofs.wide.Reads as wide-reads
 
-least-requires : tie.Need-least-requires
-least-requires c κs = search needs
+lesser-requires : tie.Need-lesser-requires
+lesser-requires c κs = search needs
 
 less-requires : tie.Need-less-requires
 less-requires c κs = search needs
@@ -60,7 +60,7 @@ same-length c = search needs
 
 returns : tie.Need-returns
 returns c =
-    puts-record (c .before .before .before .before .before .before .before .before .before .before .before .before .before .before .before .before .before .before .before .before .before .before .before .before .args .r) (altered-length _ (c .before .before .before .before .before .before .before .before .before .before .before .before .before .before .before .before .before .before .before .before .before .least .ensures) (c .before .before .before .before .before .before .before .before .before .before .before .before .before .before .before .before .before .before .before .before .less .ensures .0)) (c .before .before .before .before .before .before .before .before .before .before .before .before .before .before .before .before .put-head .ensures)
+    puts-record (c .before .before .before .before .before .before .before .before .before .before .before .before .before .before .before .before .before .before .before .before .before .before .before .before .args .r) (altered-length _ (c .before .before .before .before .before .before .before .before .before .before .before .before .before .before .before .before .before .before .before .before .before .lesser .ensures) (c .before .before .before .before .before .before .before .before .before .before .before .before .before .before .before .before .before .before .before .before .less .ensures .0)) (c .before .before .before .before .before .before .before .before .before .before .before .before .before .before .before .before .put-head .ensures)
     (puts-as
     (altered-bytes _ (c .before .before .before .before .before .before .before .before .before .before .before .before .before .before .before .before .before .before .number32 .ensures ∙ ap (little 4) (c .before .before .before .before .before .before .before .before .before .before .before .before .before .before .before .before .before .before .before .part .ensures)) (c .before .before .before .before .before .before .before .wide .ensures .0 ∙ c .before .before .before .before .before .before .before .before .with-bit-15 .ensures))
     (puts-then (c .before .before .before .before .before .before .before .before .before .before .before .before .put-part .ensures) (puts-then (c .before .before .before .before .before .before .put-low .ensures) (c .before .before .put-rest .ensures))))
@@ -69,7 +69,7 @@ pub put-altered-spec : {M : Type 1} → statement M
 put-altered-spec =
     tie.close
     (tie.spec
-    least-requires
+    lesser-requires
     less-requires
     part-requires
     number32-requires

@@ -13,7 +13,7 @@ use Rattle.putting.proofs.put_head.Reads as put-head-reads
 use Rattle.putting.proofs.put_low.Reads as put-low-reads
 use Rattle.putting.proofs.put_part.Reads as put-part-reads
 use Rattle.putting.proofs.put_rest.Reads as put-rest-reads
-use Rattle.putting.proofs.wide.Reads as wide-reads
+use Rattle.numbers.proofs.wide.Reads as wide-reads
 
 number32-requires : tie.Need-number32-requires
 number32-requires c κs = search needs

@@ -7,7 +7,7 @@ use Rattle.changing.proofs.head.recount.Reads as reads
 use Rattle.changing.proofs.head.recount.Lts as lts
 use Rattle.putting.proofs.between.Reads as between-reads
 use Rattle.putting.proofs.less.Reads as less-reads
-use Rattle.putting.proofs.wide.Reads as wide-reads
+use Rattle.numbers.proofs.wide.Reads as wide-reads
 
 mul-flag : tie.Need-mul-flag
 mul-flag c = search needs

@@ -11,7 +11,7 @@ use Rattle.pack.proofs.judge.judge_rows.Lts as lts
 use Rattle.pack.proofs.judge.close.Reads as close-reads
 use Rattle.pack.proofs.judge.grown.Reads as grown-reads
 use Rattle.pack.proofs.judge.row.Reads as row-reads
-use Rattle.pack.proofs.judge.wide.Reads as wide-reads
+use Rattle.numbers.proofs.wide.Reads as wide-reads
 
 abbrev Inv-loop : tie.InvT-loop
 Inv-loop count tags levels places lengths bytes room i₀ cap₀ total₀ i cap total = Judging tags levels places lengths bytes count i cap total

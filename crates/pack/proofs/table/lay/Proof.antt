@@ -7,7 +7,7 @@ use Rattle.pack.proofs.table.lay.Statement.{statement}
 use Rattle.pack.proofs.table.lay.Tie as tie
 use Rattle.pack.proofs.table.lay.Reads as reads
 use Rattle.pack.proofs.table.lay.Lts as lts
-use Rattle.pack.proofs.judge.wide.Reads as wide-reads
+use Rattle.numbers.proofs.wide.Reads as wide-reads
 use Rattle.pack.proofs.put.put_record.Reads as put-record-reads
 
 abbrev Inv-loop : tie.InvT-loop

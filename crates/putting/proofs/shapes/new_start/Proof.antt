@@ -7,7 +7,7 @@ use Rattle.putting.proofs.shapes.new_start.Tie as tie
 use Rattle.putting.proofs.shapes.new_start.Reads as reads
 use Rattle.putting.proofs.shapes.new_start.Lts as lts
 use Rattle.putting.proofs.shapes.between.Reads as between-reads
-use Rattle.putting.proofs.shapes.wide.Reads as wide-reads
+use Rattle.numbers.proofs.wide.Reads as wide-reads
 
 wide-requires : tie.Need-wide-requires
 wide-requires c κs = search needs

@@ -6,7 +6,7 @@ use Rattle.putting.proofs.shapes.start_of.Tie as tie
 use Rattle.putting.proofs.shapes.start_of.Reads as reads
 use Rattle.putting.proofs.shapes.start_of.Lts as lts
 use Rattle.numbers.proofs.number32.Reads as number32-reads
-use Rattle.putting.proofs.shapes.wide.Reads as wide-reads
+use Rattle.numbers.proofs.wide.Reads as wide-reads
 
 mul-from : tie.Need-mul-from
 mul-from c = search needs

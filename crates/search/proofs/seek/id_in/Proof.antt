@@ -5,7 +5,7 @@ use Rattle.search.proofs.seek.id_in.Statement.{statement}
 use Rattle.search.proofs.seek.id_in.Tie as tie
 use Rattle.search.proofs.seek.id_in.Reads as reads
 use Rattle.search.proofs.seek.id_in.Lts as lts
-use Rattle.search.proofs.seek.wide.Reads as wide-reads
+use Rattle.numbers.proofs.wide.Reads as wide-reads
 use Rattle.numbers.proofs.number16.Reads as number16-reads
 use Rattle.numbers.proofs.number32.Reads as number32-reads
 
