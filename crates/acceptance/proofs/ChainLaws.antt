@@ -12,12 +12,12 @@ use borrow.Author.Tests.{ltb-true, ltb-false, leb-true, leb-false, eqb-true, eqb
 use Rattle.numbers.specs.Little.{little}
 use Rattle.records.specs.declared.fault.Fault.{Fault}
 use Rattle.text.proofs.Cases.{eq-or}
-use Rattle.entries.specs.Entries.{entries, startFault, shapesFault, markFault, marksFault}
+use Rattle.entries.specs.Entries.{entries, laterFault, startFault, shapesFault, markFault, marksFault}
 use Rattle.paragraph.specs.Rules.{guard, orElse, lengthOf, lacks, unwanted, misfits, isSome, fieldShort, fieldFault}
 use Rattle.paragraph.specs.declared.finding.Which.{Which}
 use Rattle.paragraph.specs.declared.finding.Finding.{Finding}
 use Rattle.paragraph.specs.declared.finding.Finding.the-variants as G
-use Rattle.acceptance.specs.Keeps.{startsOf, Mark, markOf, marksOf, First, Above, Rise, Below, Within, LongEnough, Fields, Sized}
+use Rattle.acceptance.specs.Keeps.{startsOf, Mark, markOf, marksOf, First, Above, Rise, Below, MarksWithin, LongEnough, Fields, Sized}
 
 -- ---- tests
 
@@ -102,63 +102,50 @@ cond-says : (t : Bool) (rest : Option ℕ) (i : ℕ) → cond t rest (some i) �
 cond-says true rest i e = (refl, e)
 cond-says false rest i e = absurd (let z : _≡_ {A = ℕ} 0 1 = cc in omega arith)
 
-abbrev starts : List (List ℕ) → List ℕ
-starts es = map (little 4) es
-
-above-says : (i x bound : ℕ) (es : List (List ℕ)) → startFault i (x + 1) bound bound es ≡ none → Above x (starts es) × Below bound (starts es)
-unfolding startFault
+above-says : (i x bound : ℕ) (ss : List ℕ) → laterFault i x bound ss ≡ none → Above x ss × Below bound ss
+unfolding laterFault
 above-says i x bound [] e = (tt, tt)
-above-says i x bound (b ∷ es) e =
-    let y = little 4 b in
-    let k = cond-says (leb (x + 1) y && ltb y bound) (startFault (i + 1) (y + 1) bound bound es) i e in
-    let t = both-true (leb (x + 1) y) (ltb y bound) (k .0) in
-    let r = above-says (i + 1) y bound es (k .1) in
-    ((omega (arith, leb-true (x + 1) y (t .0)), r .0), (ltb-true y bound (t .1), r .1))
+above-says i x bound (s ∷ ss) e =
+    let k = cond-says (ltb x s && ltb s bound) (laterFault (i + 1) s bound ss) i e in
+    let t = both-true (ltb x s) (ltb s bound) (k .0) in
+    let r = above-says (i + 1) s bound ss (k .1) in
+    ((ltb-true x s (t .0), r .0), (ltb-true s bound (t .1), r .1))
 
-above-not : (i x bound : ℕ) (es : List (List ℕ)) → Above x (starts es) → Below bound (starts es) → startFault i (x + 1) bound bound es ≡ none
-unfolding startFault
+above-not : (i x bound : ℕ) (ss : List ℕ) → Above x ss → Below bound ss → laterFault i x bound ss ≡ none
+unfolding laterFault
 above-not i x bound [] a b = refl
-above-not i x bound (e ∷ es) a b =
-    let y = little 4 e in
-    let low : x + 1 ≤ y = omega (arith, a .0) in
-    rw (le-leb (x + 1) y low, lt-ltb y bound (b .0)) (above-not (i + 1) y bound es (a .1) (b .1))
+above-not i x bound (s ∷ ss) a b = rw (lt-ltb x s (a .0), lt-ltb s bound (b .0)) (above-not (i + 1) s bound ss (a .1) (b .1))
 
-pub record Starts (count : ℕ) (xs : List ℕ) : Type 0 where
+pub record SoundStarts (count : ℕ) (xs : List ℕ) : Type 0 where
   pub first : First 0 xs
   pub rise : Rise xs
   pub below : Below (max 1 count) xs
 
-starts-says : (bound : ℕ) (es : List (List ℕ)) → 0 < bound → startFault 0 0 1 bound es ≡ none
-    → First 0 (starts es) × (Rise (starts es) × Below bound (starts es))
+starts-says : (bound : ℕ) (ss : List ℕ) → 0 < bound → startFault bound ss ≡ none → First 0 ss × (Rise ss × Below bound ss)
 unfolding startFault
 starts-says bound [] h e = (tt, (tt, tt))
-starts-says bound (b ∷ es) h e =
-    let y = little 4 b in
-    let k = cond-says (leb 0 y && ltb y 1) (startFault 1 (y + 1) bound bound es) 0 e in
-    let t = both-true (leb 0 y) (ltb y 1) (k .0) in
-    let z : y < 1 = ltb-true y 1 (t .1) in
-    let r = above-says 1 y bound es (k .1) in
-    (omega arith, (r .0, (omega arith, r .1)))
+starts-says bound (s ∷ ss) h e =
+    let k = cond-says (eqb s 0) (laterFault 1 s bound ss) 0 e in
+    let z : s ≡ 0 = eqb-true s 0 (k .0) in
+    let r = above-says 1 s bound ss (k .1) in
+    (z, (r .0, (omega arith, r .1)))
 
-starts-not : (bound : ℕ) (es : List (List ℕ)) → First 0 (starts es) → Rise (starts es) → Below bound (starts es) → startFault 0 0 1 bound es ≡ none
+starts-not : (bound : ℕ) (ss : List ℕ) → First 0 ss → Rise ss → Below bound ss → startFault bound ss ≡ none
 unfolding startFault
 starts-not bound [] f r b = refl
-starts-not bound (e ∷ es) f r b =
-    let y = little 4 e in
-    let z : y < 1 = omega (arith, f) in
-    rw (le-leb 0 y (omega arith), lt-ltb y 1 z) (above-not 1 y bound es r (b .1))
+starts-not bound (s ∷ ss) f r b = rw (eq-eqb s 0 f) (above-not 1 s bound ss r (b .1))
 
-pub shapes-say : (count : ℕ) (b : List ℕ) → shapesFault count b ≡ none → Starts count (startsOf b)
+pub shapes-say : (count : ℕ) (b : List ℕ) → shapesFault count b ≡ none → SoundStarts count (startsOf b)
 unfolding shapesFault
 shapes-say count b e =
-    let k = starts-says (max 1 count) (entries 8 (length b / 8) b) (omega arith) e in
+    let k = starts-says (max 1 count) (startsOf b) (omega arith) e in
     record { first = k .0; rise = k .1 .0; below = k .1 .1 }
 
-pub shapes-not : (count : ℕ) (b : List ℕ) → Starts count (startsOf b) → shapesFault count b ≡ none
+pub shapes-not : (count : ℕ) (b : List ℕ) → SoundStarts count (startsOf b) → shapesFault count b ≡ none
 unfolding shapesFault
-shapes-not count b k = starts-not (max 1 count) (entries 8 (length b / 8) b) (k .first) (k .rise) (k .below)
+shapes-not count b k = starts-not (max 1 count) (startsOf b) (k .first) (k .rise) (k .below)
 
-marks-by : (i count : ℕ) (es : List (List ℕ)) → markFault i count es ≡ none → Within count (map markOf es)
+marks-by : (i count : ℕ) (es : List (List ℕ)) → markFault i count es ≡ none → MarksWithin count (map markOf es)
 unfolding markFault
 marks-by i count [] e = tt
 marks-by i count (b ∷ es) e =
@@ -168,17 +155,17 @@ marks-by i count (b ∷ es) e =
     let t = both-true (leb x y) (leb y count) (k .0) in
     (leb-true x y (t .0), (leb-true y count (t .1), marks-by (i + 1) count es (k .1)))
 
-marks-of : (i count : ℕ) (es : List (List ℕ)) → Within count (map markOf es) → markFault i count es ≡ none
+marks-of : (i count : ℕ) (es : List (List ℕ)) → MarksWithin count (map markOf es) → markFault i count es ≡ none
 unfolding markFault
 marks-of i count [] k = refl
 marks-of i count (b ∷ es) k =
     rw (le-leb (little 4 b) (little 4 (drop 4 b)) (k .0), le-leb (little 4 (drop 4 b)) count (k .1 .0)) (marks-of (i + 1) count es (k .1 .1))
 
-pub marks-say : (count : ℕ) (b : List ℕ) → marksFault count b ≡ none → Within count (marksOf b)
+pub marks-say : (count : ℕ) (b : List ℕ) → marksFault count b ≡ none → MarksWithin count (marksOf b)
 unfolding marksFault
 marks-say count b e = marks-by 0 count (entries 12 (length b / 12) b) e
 
-pub marks-not : (count : ℕ) (b : List ℕ) → Within count (marksOf b) → marksFault count b ≡ none
+pub marks-not : (count : ℕ) (b : List ℕ) → MarksWithin count (marksOf b) → marksFault count b ≡ none
 unfolding marksFault
 marks-not count b k = marks-of 0 count (entries 12 (length b / 12) b) k
 

@@ -11,7 +11,8 @@ use lib.ListN.{length}
 use borrow.Author.Tests.{ltb-false, le-ltb, eqb-true, eq-eqb, not-false}
 use Rattle.records.specs.Records.{Rec}
 use Rattle.text.specs.Units.{units}
-use Rattle.text.specs.Walk.{Sound, textFault, tokens, extendedCount}
+use Rattle.text.specs.Asked.{SoundText}
+use Rattle.text.specs.Walk.{textFault, tokens, extendedCount}
 use Rattle.text.proofs.SoundLaws.{sound-exactly}
 use Rattle.paragraph.specs.View.{View, child, controls}
 use Rattle.entries.specs.Entries.{shapesFault, marksFault}
@@ -19,16 +20,16 @@ use Rattle.paragraph.specs.Rules.{countsOf, lengthOf, lengthsOf, lacks, absent,
 use Rattle.paragraph.specs.declared.finding.Counts.{Counts}
 use Rattle.paragraph.specs.declared.finding.Finding.{Finding}
 use Rattle.paragraph.specs.declared.finding.Finding.the-variants as G
-use Rattle.acceptance.specs.Keeps.{startsOf, marksOf, Within, Fields, Sized, Keeps}
-use Rattle.acceptance.proofs.ChainLaws.{both-false, neither, some-none, guard-says, guard-passes, else-says, else-passes, lacks-says, lacks-not, unwanted-says, unwanted-not, misfits-says, misfits-not, none-says, Starts, shapes-say, shapes-not, marks-say, marks-not, fields-say, fields-not}
+use Rattle.acceptance.specs.Keeps.{startsOf, marksOf, MarksWithin, Fields, Sized, Keeps}
+use Rattle.acceptance.proofs.ChainLaws.{both-false, neither, some-none, guard-says, guard-passes, else-says, else-passes, lacks-says, lacks-not, unwanted-says, unwanted-not, misfits-says, misfits-not, none-says, SoundStarts, shapes-say, shapes-not, marks-say, marks-not, fields-say, fields-not}
 
 -- ---- the text
 
-text-says : (o : Option (List ℕ)) → textBroken o ≡ false → (b : List ℕ) → o ≡ some b → Sound (units b)
+text-says : (o : Option (List ℕ)) → textBroken o ≡ false → (b : List ℕ) → o ≡ some b → SoundText (units b)
 text-says none e b q = absurd (some-none (sym q))
 text-says (some c) e b q = let same : c ≡ b = cc in rw (← same) (sound-exactly (units c) .0 (none-says (textFault (units c)) e))
 
-text-not : (o : Option (List ℕ)) → ((b : List ℕ) → o ≡ some b → Sound (units b)) → textBroken o ≡ false
+text-not : (o : Option (List ℕ)) → ((b : List ℕ) → o ≡ some b → SoundText (units b)) → textBroken o ≡ false
 text-not none h = refl
 text-not (some b) h = ap isSome (sound-exactly (units b) .1 (h b refl))
 

@@ -12,6 +12,7 @@ use lib.ListN.{length}
 use borrow.Author.Tests.{eqb-true, eq-eqb, ne-eqb, not-false}
 use Rattle.numbers.specs.Little.{Bytes}
 use Rattle.records.specs.Records.{Rec, limit, size, Lawful, Encodes}
+use Rattle.records.specs.Parents.{parentOf}
 use Rattle.records.specs.Reading.{Read, Stands, whole, fault, standsAt, onto, readFrom, readAll}
 use Rattle.records.specs.Table.{readAnswer}
 use Rattle.records.specs.declared.fault.Fault.{Fault}
@@ -24,14 +25,15 @@ use Rattle.paragraph.specs.Rules.{paragraphFault, firstFault}
 use Rattle.paragraph.specs.declared.finding.Finding.{Finding}
 use Rattle.paragraph.specs.declared.finding.Finding.the-variants as G
 use Rattle.text.proofs.Cases.{eq-or}
-use Rattle.section.specs.Parents.{parentOf, doubled, leaf, header, parentIs, misplaced, strayFrom}
+use Rattle.section.specs.Parents.{doubled, leaf, header, parentIs, misplaced, strayFrom}
 use Rattle.section.specs.Section.{refusalOr, findingOf, paragraphsFault, strayOr, sectionFault, settled, ruled, sectionAnswer, checkAnswer}
 use Rattle.section.proofs.SectionLaws.{section-accepted}
 use Rattle.acceptance.specs.Keeps.{Keeps}
-use Rattle.acceptance.specs.Section.{Twin, Placed, AllPlaced, AllKeep, Obeys, IsSection}
+use Rattle.acceptance.specs.Section.{Placed, AllPlaced, AllKeep, SectionObeys, IsSection}
 use Rattle.acceptance.proofs.ChainLaws.{both-false, neither}
 use Rattle.acceptance.proofs.ParagraphReader.{keeps-exactly}
-use Rattle.acceptance.proofs.SiblingLaws.{capOf, Stepped, doubled-twin, twin-doubled}
+use Rattle.acceptance.proofs.PlaceLaws.{PlacedBy, by-parent}
+use Rattle.acceptance.proofs.SiblingLaws.{capOf, Stepped, doubled-sibling, sibling-doubled}
 
 -- ---- rule 9
 
@@ -48,7 +50,7 @@ not-both true h = absurd (h refl)
 not-both false h = refl
 
 module _ (r : Rec) (earlier : List Rec) (steps : Stepped earlier) where
-  placed-says : misplaced r earlier ≡ false → Placed r earlier
+  placed-says : misplaced r earlier ≡ false → PlacedBy r earlier
   unfolding misplaced
   placed-says e =
       let up = parentOf (r .level) earlier in
@@ -58,20 +60,24 @@ module _ (r : Rec) (earlier : List Rec) (steps : Stepped earlier) where
         below-header = λ l. not-false (parentIs header up) (both-false (not (parentIs header up)) (doubled (r .tag) (r .level) earlier) (b l) .0);
         single = λ l w.
             let d = both-false (not (parentIs header up)) (doubled (r .tag) (r .level) earlier) (b l) .1 in
-            let y : true ≡ false = sym (twin-doubled (r .tag) (r .level) earlier steps w) ∙ d in
+            let y : true ≡ false = sym (sibling-doubled (r .tag) (r .level) earlier steps w) ∙ d in
             let z : _≡_ {A = ℕ} 0 1 = cc in
             omega arith;
         no-leaf-above = a .0;
       }
 
-  placed-not : Placed r earlier → misplaced r earlier ≡ false
+  placed-not : PlacedBy r earlier → misplaced r earlier ≡ false
   unfolding misplaced
   placed-not k =
       neither (k .no-leaf-above)
       (and-not (leaf (r .tag)) _
       (λ l.
       neither (ap not (k .below-header l))
-      (not-both (doubled (r .tag) (r .level) earlier) (λ d. k .single l (doubled-twin (r .tag) (r .level) earlier d)))))
+      (not-both (doubled (r .tag) (r .level) earlier) (λ d. k .single l (doubled-sibling (r .tag) (r .level) earlier d)))))
+
+  -- behind records that keep the level rule, 9 does not name a record exactly when it stands as document 01 says
+  pub placed-exactly : (misplaced r earlier ≡ false) ↔ Placed r earlier
+  placed-exactly = ((λ e. by-parent r earlier .1 (placed-says e)), λ k. placed-not (by-parent r earlier .0 k))
 
 cond-none : (t : Bool) (at : ℕ) (rest : Option ℕ) → cond t (some at) rest ≡ none → (t ≡ false) × (rest ≡ none)
 cond-none true at rest e = absurd (let z : _≡_ {A = ℕ} 0 1 = cc in omega arith)
@@ -82,13 +88,13 @@ unfolding strayFrom
 stray-says at earlier [] w l e = tt
 stray-says at earlier (r ∷ rs) w l e =
     let k = cond-none (misplaced r earlier) at (strayFrom (at + size r) (r ∷ earlier) rs) e in
-    (placed-says r earlier w (k .0), stray-says (at + size r) (r ∷ earlier) rs (l .0 .level-cap, w) (l .1) (k .1))
+    (placed-exactly r earlier w .0 (k .0), stray-says (at + size r) (r ∷ earlier) rs (l .0 .level-cap, w) (l .1) (k .1))
 
 stray-not : (at : ℕ) (earlier rs : List Rec) → Stepped earlier → Lawful (capOf earlier) rs → AllPlaced earlier rs → strayFrom at earlier rs ≡ none
 unfolding strayFrom
 stray-not at earlier [] w l k = refl
 stray-not at earlier (r ∷ rs) w l k =
-    rw (placed-not r earlier w (k .0)) (stray-not (at + size r) (r ∷ earlier) rs (l .0 .level-cap, w) (l .1) (k .1))
+    rw (placed-exactly r earlier w .1 (k .0)) (stray-not (at + size r) (r ∷ earlier) rs (l .0 .level-cap, w) (l .1) (k .1))
 
 -- ---- the paragraphs
 
@@ -127,18 +133,18 @@ stray-or : (o : Option ℕ) (rest : Option Refusal) → strayOr o rest ≡ none 
 stray-or none rest e = (refl, e)
 stray-or (some p) rest e = absurd (let z : _≡_ {A = ℕ} 0 1 = cc in omega arith)
 
-section-says : (rs : List Rec) → Lawful 0 rs → sectionFault rs ≡ none → Obeys rs
+section-says : (rs : List Rec) → Lawful 0 rs → sectionFault rs ≡ none → SectionObeys rs
 unfolding sectionFault
 section-says rs l e =
     let k = stray-or (strayFrom 0 [] rs) (paragraphsFault 0 rs) e in
     record { placed = stray-says 0 [] rs tt l (k .0); paragraphs = keep-says 0 rs (k .1) }
 
-section-not : (rs : List Rec) → Lawful 0 rs → Obeys rs → sectionFault rs ≡ none
+section-not : (rs : List Rec) → Lawful 0 rs → SectionObeys rs → sectionFault rs ≡ none
 unfolding sectionFault
 section-not rs l k = ap (λ (o : Option ℕ). strayOr o (paragraphsFault 0 rs)) (stray-not 0 [] rs tt l (k .placed)) ∙ keep-not 0 rs (k .paragraphs)
 
 -- of records that keep the tag and level rules, the section's rules find nothing exactly when document 01's sentences hold
-pub obeys-exactly : (rs : List Rec) → Lawful 0 rs → (sectionFault rs ≡ none) ↔ Obeys rs
+pub obeys-exactly : (rs : List Rec) → Lawful 0 rs → (sectionFault rs ≡ none) ↔ SectionObeys rs
 obeys-exactly rs l = (section-says rs l, section-not rs l)
 
 -- ---- check

@@ -9,10 +9,11 @@ use lib.Dec.{ltb, eqb}
 use lib.ListN.{length}
 use borrow.Author.Tests.{lt-ltb, le-ltb, eq-eqb, ne-eqb, eqb-true}
 use Rattle.records.specs.Records.{Rec}
+use Rattle.records.specs.Parents.{parentOf}
+use Rattle.records.proofs.ParentLaws.{parent-skip, parent-here, parent-short}
 use Rattle.text.proofs.Cases.{lt-or, eq-or}
-use Rattle.section.specs.Parents.{parentOf, doubled}
-use Rattle.section.proofs.SeatLaws.{parent-skip, parent-here}
-use Rattle.acceptance.specs.Section.{Twin, here, further}
+use Rattle.section.specs.Parents.{doubled}
+use Rattle.acceptance.proofs.PlaceLaws.{Sibling, beside, past}
 
 -- the highest level that may stand behind some records, and that the records keep to it themselves
 abbrev pub capOf : List Rec → ℕ
@@ -22,16 +23,6 @@ capOf (p ∷ e) = p .level + 1
 abbrev pub Stepped : List Rec → Type 0
 Stepped [] = Unit {0}
 Stepped (p ∷ e) = (p .level ≤ capOf e) × Stepped e
-
--- a parent stands among the earlier records
-parent-short : (level : ℕ) (e : List Rec) → length (parentOf level e) ≤ length e
-unfolding parentOf
-parent-short level [] = omega arith
-parent-short level (p ∷ e) =
-    elim (lt-or (p .level) level) [
-      | inl h ↦ subst (λ (l : List Rec). length l ≤ suc (length e)) (sym (parent-here level p e h)) (omega arith)
-      | inr h ↦ subst (λ (l : List Rec). length l ≤ suc (length e)) (sym (parent-skip level p e h)) (omega (arith, parent-short level e))
-    ]
 
 -- the parent of a deeper level is nearer
 nearer : (deep level : ℕ) (e : List Rec) → deep ≤ capOf e → Stepped e → level < deep → length (parentOf level e) < length (parentOf deep e)
@@ -47,9 +38,9 @@ nearer deep level (p ∷ e) h k d =
           (nearer deep level e (omega (arith, k .0)) (k .1) d))
     ]
 
-pub twin-short : {tag : ℕ} {up e : List Rec} → Twin tag up e → length up < length e
-twin-short (here {q} {before} t p) = omega (arith, parent-short (q .level) before, ap length p)
-twin-short (further w) = omega (arith, twin-short w)
+pub sibling-short : {tag : ℕ} {up e : List Rec} → Sibling tag up e → length up < length e
+sibling-short (beside {q} {earlier} t p) = omega (arith, parent-short (q .level) earlier, ap length p)
+sibling-short (past w) = omega (arith, sibling-short w)
 
 -- records of one parent stand at one level
 pub same-level : (level : ℕ) (q : Rec) (e : List Rec) → Stepped (q ∷ e) → level ≤ q .level → parentOf (q .level) e ≡ parentOf level e → q .level ≡ level
@@ -75,33 +66,33 @@ either true true c e = inl (refl, refl)
 either true false c e = inr e
 either false b c e = inr e
 
-pub doubled-twin : (tag level : ℕ) (e : List Rec) → doubled tag level e ≡ true → Twin tag (parentOf level e) e
+pub doubled-sibling : (tag level : ℕ) (e : List Rec) → doubled tag level e ≡ true → Sibling tag (parentOf level e) e
 unfolding doubled
-doubled-twin tag level [] d = absurd (let z : _≡_ {A = ℕ} 0 1 = cc in omega arith)
-doubled-twin tag level (q ∷ e) d =
+doubled-sibling tag level [] d = absurd (let z : _≡_ {A = ℕ} 0 1 = cc in omega arith)
+doubled-sibling tag level (q ∷ e) d =
     elim (lt-or (q .level) level) [
       | inl a ↦ absurd (let y : false ≡ true = sym (doubled-stop tag level q e a) ∙ d in let z : _≡_ {A = ℕ} 0 1 = cc in omega arith)
       | inr a ↦
-          subst (λ (up : List Rec). Twin tag up (q ∷ e)) (sym (parent-skip level q e a))
+          subst (λ (up : List Rec). Sibling tag up (q ∷ e)) (sym (parent-skip level q e a))
           (elim (either (eqb (q .level) level) (eqb (q .tag) tag) (doubled tag level e) (sym (doubled-on tag level q e a) ∙ d)) [
-            | inl b ↦ here (eqb-true (q .tag) tag (b .1)) (ap (λ (l : ℕ). parentOf l e) (eqb-true (q .level) level (b .0)))
-            | inr b ↦ further (doubled-twin tag level e b)
+            | inl b ↦ beside (eqb-true (q .tag) tag (b .1)) (ap (λ (l : ℕ). parentOf l e) (eqb-true (q .level) level (b .0)))
+            | inr b ↦ past (doubled-sibling tag level e b)
           ])
     ]
 
 -- at a record of the same level or deeper
-twin-here : (tag level : ℕ) (q : Rec) (e : List Rec) → Stepped (q ∷ e) → level ≤ q .level → q .tag ≡ tag → parentOf (q .level) e ≡ parentOf level e
+sibling-here : (tag level : ℕ) (q : Rec) (e : List Rec) → Stepped (q ∷ e) → level ≤ q .level → q .tag ≡ tag → parentOf (q .level) e ≡ parentOf level e
     → doubled tag level (q ∷ e) ≡ true
-twin-here tag level q e k a t p = doubled-on tag level q e a ∙ rw (eq-eqb (q .level) level (same-level level q e k a p), eq-eqb (q .tag) tag t)
+sibling-here tag level q e k a t p = doubled-on tag level q e a ∙ rw (eq-eqb (q .level) level (same-level level q e k a p), eq-eqb (q .tag) tag t)
 
-pub twin-doubled : (tag level : ℕ) (e : List Rec) → Stepped e → Twin tag (parentOf level e) e → doubled tag level e ≡ true
-twin-doubled tag level [] k w = absurd (omega (arith, twin-short w))
-twin-doubled tag level (q ∷ e) k w =
+pub sibling-doubled : (tag level : ℕ) (e : List Rec) → Stepped e → Sibling tag (parentOf level e) e → doubled tag level e ≡ true
+sibling-doubled tag level [] k w = absurd (omega (arith, sibling-short w))
+sibling-doubled tag level (q ∷ e) k w =
     elim (lt-or (q .level) level) [
-      | inl a ↦ absurd (omega (arith, twin-short (subst (λ (up : List Rec). Twin tag up (q ∷ e)) (parent-here level q e a) w)))
-      | inr a ↦ by a (subst (λ (up : List Rec). Twin tag up (q ∷ e)) (parent-skip level q e a) w) (twin-doubled tag level e (k .1))
+      | inl a ↦ absurd (omega (arith, sibling-short (subst (λ (up : List Rec). Sibling tag up (q ∷ e)) (parent-here level q e a) w)))
+      | inr a ↦ by a (subst (λ (up : List Rec). Sibling tag up (q ∷ e)) (parent-skip level q e a) w) (sibling-doubled tag level e (k .1))
     ]
   where
-    by : level ≤ q .level → Twin tag (parentOf level e) (q ∷ e) → (Twin tag (parentOf level e) e → doubled tag level e ≡ true) → doubled tag level (q ∷ e) ≡ true
-    by a (here t p) rest = twin-here tag level q e k a t p
-    by a (further v) rest = doubled-on tag level q e a ∙ rw (rest v, or-true (eqb (q .level) level && eqb (q .tag) tag))
+    by : level ≤ q .level → Sibling tag (parentOf level e) (q ∷ e) → (Sibling tag (parentOf level e) e → doubled tag level e ≡ true) → doubled tag level (q ∷ e) ≡ true
+    by a (beside t p) rest = sibling-here tag level q e k a t p
+    by a (past v) rest = doubled-on tag level q e a ∙ rw (rest v, or-true (eqb (q .level) level && eqb (q .tag) tag))

@@ -7,7 +7,8 @@ use lib.ListN.{length, drop}
 use Rattle.numbers.specs.Little.{little}
 use Rattle.records.specs.Kinds as kind
 use Rattle.text.specs.Units.{units}
-use Rattle.text.specs.Walk.{Sound, tokens, extendedCount}
+use Rattle.text.specs.Asked.{SoundText}
+use Rattle.text.specs.Walk.{tokens, extendedCount}
 use Rattle.paragraph.specs.View.{View, child, controls}
 use Rattle.entries.specs.Entries.{entries}
 use Rattle.paragraph.specs.Rules.{countsOf, bytesIn, codesIn}
@@ -52,9 +53,9 @@ Below bound [] = Unit {0}
 Below bound (x ∷ xs) = (x < bound) × Below bound xs
 
 -- start at most end, end at most count
-abbrev pub Within : ℕ → List Mark → Type 0
-Within count [] = Unit {0}
-Within count (m ∷ ms) = (m .start ≤ m .end) × ((m .end ≤ count) × Within count ms)
+abbrev pub MarksWithin : ℕ → List Mark → Type 0
+MarksWithin count [] = Unit {0}
+MarksWithin count (m ∷ ms) = (m .start ≤ m .end) × ((m .end ≤ count) × MarksWithin count ms)
 
 -- at least 15 + 2 x length bytes
 pub record LongEnough (b : List ℕ) : Type 0 where
@@ -80,7 +81,7 @@ pub record Keeps (v : View) : Type 0 where
   -- text: 2 x count bytes; with count 0 absent, with count 1 it may be absent
   pub text-absent : child kind.text (v .own) ≡ none → countsOf (v .head) .count < 2
   pub text-sized : (b : List ℕ) → child kind.text (v .own) ≡ some b → Sized 2 (countsOf (v .head) .count) b
-  pub text-sound : (b : List ℕ) → child kind.text (v .own) ≡ some b → Sound (units b)
+  pub text-sound : (b : List ℕ) → child kind.text (v .own) ≡ some b → SoundText (units b)
   -- character shapes: always present and at least one, 8 bytes each; the first start is 0, starts strictly rise, each is below the
   -- count (below 1 when the count is 0)
   pub shapes-there : child kind.shapes (v .own) ≡ none → ⊥
@@ -94,7 +95,7 @@ pub record Keeps (v : View) : Type 0 where
   -- marks: present exactly if marks is above 0, 12 bytes each; start at most end, end at most count
   pub marks-absent : child kind.marks (v .own) ≡ none → countsOf (v .head) .marks ≡ 0
   pub marks-sized : (b : List ℕ) → child kind.marks (v .own) ≡ some b → Sized 12 (countsOf (v .head) .marks) b
-  pub marks-within : Within (countsOf (v .head) .count) (marksOf (bytesIn (child kind.marks (v .own))))
+  pub marks-within : MarksWithin (countsOf (v .head) .count) (marksOf (bytesIn (child kind.marks (v .own))))
   -- the numbers of extended controls and of control headers are equal; under code 3 the header is long enough
   pub controls-equal : extendedCount (units (bytesIn (child kind.text (v .own)))) ≡ length (controls (v .own))
   pub fields-long : Fields (codesIn (tokens (units (bytesIn (child kind.text (v .own)))))) (controls (v .own))

@@ -1,39 +1,51 @@
--- What document 01 asks of a section, by no order of refusals: where records 67 to 70 stand, and each paragraph ('Paragraphs').
+-- What document 01 asks of a section, by no order of refusals: where records 67 to 70 stand, and each paragraph ('Paragraphs'). Earlier records
+-- are given the nearest first; `Parent` says that a record's parent is the nearest earlier record of smaller level ('Records').
 use mathlib.Core.Path.{_≡_}
-use mathlib.Core.Bool.{Bool, true, false}
 use mathlib.Core.List.{List, [], _∷_}
 use Prim.Native.Nat.{ℕ, _≤_}
 use lib.ListN.{length}
 use Rattle.records.specs.Kinds as kind
 use Rattle.records.specs.Records.{Rec, limit, Encodes}
+use Rattle.records.specs.Parents.{Parent}
 use Rattle.paragraph.specs.View.{view}
-use Rattle.section.specs.Parents.{parentOf, leaf, header, parentIs}
 use Rattle.acceptance.specs.Keeps.{Keeps}
 
--- among earlier records, the nearest first: one with a tag and a parent. A parent is told by itself and the records before it
-pub data Twin (tag : ℕ) (up : List Rec) : List Rec → Type 0 where
-  here : {q : Rec} {before : List Rec} → q .tag ≡ tag → parentOf (q .level) before ≡ up → Twin tag up (q ∷ before)
-  further : {q : Rec} {before : List Rec} → Twin tag up before → Twin tag up (q ∷ before)
+-- records 67 to 70
+abbrev pub IsLeaf : ℕ → Type 0
+IsLeaf tag = (kind.text ≤ tag) × (tag ≤ kind.marks)
 
--- of a record r behind some earlier ones, the nearest first
+-- a record at a level has a parent, and its tag is this
+pub record ChildOf (tag level : ℕ) (earlier : List Rec) : Type 0 where
+  pub parent : Rec
+  pub before : List Rec
+  pub is-parent : Parent level earlier parent before
+  pub tag-is : parent .tag ≡ tag
+
+-- one of the earlier records has the tag and the parent p, which stands behind the records `before`
+pub data Twin (tag : ℕ) (p : Rec) (before : List Rec) : List Rec → Type 0 where
+  here : {q : Rec} {earlier : List Rec} → q .tag ≡ tag → Parent (q .level) earlier p before → Twin tag p before (q ∷ earlier)
+  further : {q : Rec} {earlier : List Rec} → Twin tag p before earlier → Twin tag p before (q ∷ earlier)
+
+-- of a record r behind the earlier ones
 pub record Placed (r : Rec) (earlier : List Rec) : Type 0 where
   -- records 67 to 70 must be children of a 66
-  pub below-header : leaf (r .tag) ≡ true → parentIs header (parentOf (r .level) earlier) ≡ true
+  pub below-header : IsLeaf (r .tag) → ChildOf kind.paragraphHeader (r .level) earlier
   -- at most one of each: no earlier record with the same parent has its tag
-  pub single : leaf (r .tag) ≡ true → Twin (r .tag) (parentOf (r .level) earlier) earlier → ⊥
-  -- and have no children
-  pub no-leaf-above : parentIs leaf (parentOf (r .level) earlier) ≡ false
+  pub single : IsLeaf (r .tag) → (p : Rec) (before : List Rec) → Parent (r .level) earlier p before → Twin (r .tag) p before earlier → ⊥
+  -- and have no children: the parent of no record is one of them
+  pub no-leaf-above : (p : Rec) (before : List Rec) → Parent (r .level) earlier p before → IsLeaf (p .tag) → ⊥
 
 abbrev pub AllPlaced : List Rec → List Rec → Type 0
 AllPlaced earlier [] = Unit {0}
 AllPlaced earlier (r ∷ rs) = Placed r earlier × AllPlaced (r ∷ earlier) rs
 
--- each paragraph keeps its rules
+-- each paragraph keeps its rules. What its view owns are the records with tags 67 to 71 whose parent is its header: `view-exactly` in
+-- paragraph/proofs/ChildLaws.antt
 abbrev pub AllKeep : List Rec → Type 0
 AllKeep [] = Unit {0}
 AllKeep (r ∷ rs) = (r .tag ≡ kind.paragraphHeader → Keeps (view r rs)) × AllKeep rs
 
-pub record Obeys (rs : List Rec) : Type 0 where
+pub record SectionObeys (rs : List Rec) : Type 0 where
   pub placed : AllPlaced [] rs
   pub paragraphs : AllKeep rs
 
@@ -42,4 +54,4 @@ pub record IsSection (s : List ℕ) (n : ℕ) (rs : List Rec) : Type 0 where
   pub within : length s ≤ limit
   pub encodes : Encodes 0 s rs
   pub count : n ≡ length rs
-  pub obeys : Obeys rs
+  pub obeys : SectionObeys rs

@@ -6,7 +6,7 @@ use mathlib.Core.List.{List, []}
 use Rattle.records.specs.Records.{Rec, encodeOne}
 use Rattle.records.specs.declared.header.Record.{Record}
 use Rattle.filling.specs.Fields.{Field}
-use Rattle.filling.specs.Editing.{withBody}
+use Rattle.filling.specs.Editing.{withBody, asChild}
 use Rattle.filling.specs.Filling.{newBody}
 use Rattle.changing.specs.declared.child.Spot.{Spot}
 
@@ -25,4 +25,4 @@ changedBytes (some b) r = encodeOne (withBody b r)
 
 -- what becomes of an owned child, before which j control headers stand
 unfoldable pub childBytes : Field → List ℕ → ℕ → Rec → List ℕ
-childBytes f value j r = changedBytes (newBody f value j (r .tag) (r .body)) r
+childBytes f value j r = changedBytes (newBody f value (asChild j r)) r

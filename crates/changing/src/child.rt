@@ -44,11 +44,11 @@ pub fn put_same(out: &mut [u8], at: Offset, r: Record, body: &[u8]) -> Offset
 }
 
 // The first byte of a position in a text of this length, or the text's end.
-fn byte_of(position: Position, length: usize) -> usize
-    ensures { λ r. ⌜ r ≡ min (2 * position .0) length ⌝ }
+fn byte_of(position: Position, len: usize) -> usize
+    ensures { λ r. ⌜ r ≡ min (2 * position .0) len ⌝ }
 {
     let place = unit_place(Offset(0), position);
-    lesser(place.0, length)
+    lesser(place.0, len)
 }
 
 // Puts the text: from a to b it is the value.

@@ -16,8 +16,8 @@ use Rattle.records.specs.declared.fault.Refusal.{Refusal}
 use Rattle.records.specs.declared.fault.Answer.{Answer}
 use Rattle.records.specs.declared.fault.Answer.the-variants as A
 use Rattle.records.proofs.HeaderLaws.{length-part}
-use Rattle.docinfo.specs.Children.{children}
-use Rattle.docinfo.specs.Only.{only, soleOf, placedAt, Within}
+use Rattle.records.specs.Parents.{children}
+use Rattle.docinfo.specs.Only.{only, soleOf, locatedAt, InStream}
 use Rattle.docinfo.specs.Counts.{countFault, verdictOf}
 use Rattle.docinfo.specs.DocInfo.{kidsOf, countRefusal, bodiesFault, judged, docinfoFault, ruled, further, docinfoAnswer}
 use Rattle.docinfo.specs.declared.seek.Sole.the-variants as O
@@ -28,29 +28,29 @@ use Rattle.docinfo.proofs.OnlyLaws.{Alone, sole-wrong}
 
 -- ---- the two bodies: 17, 17, 18
 
-module _ (s : List ℕ) (n : ℕ) (p m : Record) (pre : (Within s p) × (Within s m) × (m .level ≡ 0)) where
+module _ (s : List ℕ) (n : ℕ) (p m : Record) (pre : (InStream s p) × (InStream s m) × (m .level ≡ 0)) where
   abbrev bodyOf : Record → List ℕ
-  bodyOf x = take (x .length) (drop (x .body .0) s)
+  bodyOf x = take (x .len) (drop (x .body .0) s)
 
   abbrev answer : Answer
-  answer = ruled n (bodiesFault (placedAt s p) (placedAt s m))
+  answer = ruled n (bodiesFault (locatedAt s p) (locatedAt s m))
 
-  length-16 : length (bodyOf p) ≡ p .length
-  length-16 = length-part s (p .body .0) (p .length) (pre .0)
+  length-16 : length (bodyOf p) ≡ p .len
+  length-16 = length-part s (p .body .0) (p .len) (pre .0)
 
-  length-17 : length (bodyOf m) ≡ m .length
-  length-17 = length-part s (m .body .0) (m .length) (pre .1)
+  length-17 : length (bodyOf m) ≡ m .len
+  length-17 = length-part s (m .body .0) (m .len) (pre .1)
 
-  pub bodies-16 : p .length < 30 → refusedAt F.DocInfoLength (p .at .0) ≡ answer
+  pub bodies-16 : p .len < 30 → refusedAt F.DocInfoLength (p .at .0) ≡ answer
   unfolding bodiesFault
-  bodies-16 h = simp (length-16, lt-ltb (p .length) 30 h)
+  bodies-16 h = simp (length-16, lt-ltb (p .len) 30 h)
 
-  module _ (h : 30 ≤ p .length) where
-    pub bodies-17 : (m .length ≡ 32 → ⊥) → refusedAt F.DocInfoLength (m .at .0) ≡ answer
+  module _ (h : 30 ≤ p .len) where
+    pub bodies-17 : (m .len ≡ 32 → ⊥) → refusedAt F.DocInfoLength (m .at .0) ≡ answer
     unfolding bodiesFault
-    bodies-17 e = simp (length-16, length-17, le-ltb (p .length) 30 h, ne-eqb (m .length) 32 e)
+    bodies-17 e = simp (length-16, length-17, le-ltb (p .len) 30 h, ne-eqb (m .len) 32 e)
 
-    module _ (e : m .length ≡ 32) where
+    module _ (e : m .len ≡ 32) where
       abbrev faultOf : List ℕ → Option ℕ
       faultOf body = countFault 2 body (children 1 (rest 1 s (m .next .0)))
 
@@ -58,7 +58,7 @@ module _ (s : List ℕ) (n : ℕ) (p m : Record) (pre : (Within s p) × (Within 
       unfolding bodiesFault kidsOf
       counted =
           let next : m .level + 1 ≡ 1 = omega (arith, pre .2) in
-          simp (length-16, length-17, le-ltb (p .length) 30 h, eq-eqb (m .length) 32 e, next)
+          simp (length-16, length-17, le-ltb (p .len) 30 h, eq-eqb (m .len) 32 e, next)
 
       -- the answer to a verdict on the counts
       abbrev told : Verdict → Answer
@@ -87,7 +87,7 @@ module _ (s : List ℕ) (n : ℕ) where
     unfolding docinfoFault judged
     judge-17 o e = simp (a .is, sole-wrong (only 17 (readAll s .recs)) o e)
 
-    pub judge-both : (m : Record) → Alone s 17 m → ruled n (bodiesFault (placedAt s p) (placedAt s m)) ≡ ruled n (docinfoFault (readAll s .recs))
+    pub judge-both : (m : Record) → Alone s 17 m → ruled n (bodiesFault (locatedAt s p) (locatedAt s m)) ≡ ruled n (docinfoFault (readAll s .recs))
     unfolding docinfoFault judged
     judge-both m b = simp (a .is, b .is)
 

@@ -8,9 +8,10 @@ use mathlib.Core.List.{List, [], _∷_}
 use lib.Dec.{eqb}
 use borrow.Author.Tests.{lt-ltb, le-ltb, eq-eqb, ne-eqb}
 use Rattle.records.specs.Records.{Rec}
+use Rattle.records.specs.Parents.{keepIf, children}
 use Rattle.records.specs.declared.header.Record.{Record}
 use Rattle.records.proofs.ReadingLaws.{Here}
-use Rattle.docinfo.specs.Children.{keepIf, children, once, tally}
+use Rattle.docinfo.specs.Counts.{once, tally}
 use Rattle.docinfo.proofs.WalkLaws.{rest, walk-next}
 
 -- ---- one more or not

@@ -14,11 +14,10 @@ use borrow.Author.Tests.{le-leb, lt-leb, eq-eqb, ne-eqb}
 use Rattle.numbers.specs.Little.{little, span, Bytes}
 use Rattle.numbers.proofs.LittleLaws.{bytes-drop, little-small, part-rest}
 use Rattle.records.specs.Records.{Rec}
-use Rattle.docinfo.specs.Children.{tally}
 use Rattle.docinfo.specs.declared.counts.Group.{Group}
 use Rattle.docinfo.specs.declared.counts.Verdict.{Verdict}
 use Rattle.docinfo.specs.declared.counts.Verdict.the-variants as W
-use Rattle.docinfo.specs.Counts.{countAt, negative, negativeFrom, sumFrom, groups, groupAt, unmatched, orElse, countFault, verdictOf}
+use Rattle.docinfo.specs.Counts.{tally, countAt, negative, negativeFrom, sumFrom, groups, groupAt, unmatched, orElse, countFault, verdictOf}
 
 -- ---- the bits of a count
 
@@ -104,16 +103,16 @@ groups-end i h =
     drop-of-length-le groups l
 
 -- every group lies within the sixteen counts
-abbrev Within : List Group → Type 0
-Within [] = Unit {0}
-Within (g ∷ gs) = (g .first + g .many ≤ 16) × Within gs
+abbrev InStream : List Group → Type 0
+InStream [] = Unit {0}
+InStream (g ∷ gs) = (g .first + g .many ≤ 16) × InStream gs
 
-within-at : (gs : List Group) (d : Group) (i : ℕ) → Within gs → d .first + d .many ≤ 16 → getD gs i d .first + getD gs i d .many ≤ 16
+within-at : (gs : List Group) (d : Group) (i : ℕ) → InStream gs → d .first + d .many ≤ 16 → getD gs i d .first + getD gs i d .many ≤ 16
 within-at [] d i w h = h
 within-at (g ∷ gs) d zero w h = w .0
 within-at (g ∷ gs) d (suc i) w h = within-at gs d i (w .1) h
 
-all-within : Within groups
+all-within : InStream groups
 unfolding groups
 all-within = omega arith
 

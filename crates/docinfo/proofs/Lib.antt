@@ -6,3 +6,4 @@ pub mod CountLaws
 pub mod AnswerLaws
 pub mod SoundLaws
 pub mod Reader
+pub mod NearLaws

@@ -14,7 +14,7 @@ use Rattle.records.specs.declared.header.Record.{Record}
 use Rattle.records.specs.declared.header.Ahead.{Ahead}
 use Rattle.records.specs.declared.header.Ahead.the-variants as N
 use Rattle.records.proofs.ReadingLaws.{Here, here, stops-here, ends-here}
-use Rattle.docinfo.specs.Only.{Placed, tagged, Only, one, wrong, onlyOf, only, recordOf, soughtOf, soleOf, placedAt, Within}
+use Rattle.docinfo.specs.Only.{Located, tagged, Only, one, wrong, onlyOf, only, recordOf, soughtOf, soleOf, locatedAt, InStream}
 use Rattle.docinfo.specs.declared.seek.Sought.the-variants as S
 use Rattle.docinfo.specs.declared.seek.Sole.the-variants as O
 use Rattle.docinfo.proofs.WalkLaws.{rest, walk-rec, walk-body}
@@ -23,8 +23,8 @@ use Rattle.docinfo.proofs.SeekLaws.{tagged-here, tagged-other, tagged-n
 -- ---- the record at the front of what is left stands there
 
 pub record Begins (s : List ℕ) (at : ℕ) (r : Rec) (rs : List Rec) : Type 0 where
-  pub inside : Within s (recordAt at r)
-  pub is : placedAt s (recordAt at r) ≡ record { at = at; it = r; behind = rs }
+  pub inside : InStream s (recordAt at r)
+  pub is : locatedAt s (recordAt at r) ≡ record { at = at; it = r; behind = rs }
   pub left : rest (r .level + 1) s (at + size r) ≡ rs
 
 module _ (s : List ℕ) (bs : Bytes s) (at cap : ℕ) (r : Rec) (rs : List Rec) (e : rest cap s at ≡ r ∷ rs) where
@@ -50,13 +50,13 @@ module _ (s : List ℕ) (bs : Bytes s) (at cap : ℕ) (r : Rec) (rs : List Rec) 
 
 -- ---- where a record with a tag stands: `others` are those behind it
 
-pub record Stands (s : List ℕ) (t : ℕ) (p : Placed) (others : List Placed) : Type 0 where
-  pub inside : Within s (recordOf p)
-  pub is : placedAt s (recordOf p) ≡ p
+pub record Stands (s : List ℕ) (t : ℕ) (p : Located) (others : List Located) : Type 0 where
+  pub inside : InStream s (recordOf p)
+  pub is : locatedAt s (recordOf p) ≡ p
   pub behind : others ≡ tagged t (p .at + size (p .it)) (p .behind)
 
 module _ (s : List ℕ) (bs : Bytes s) (t : ℕ) where
-  stands-by : (at : ℕ) (r : Rec) (rs : List Rec) (p : Placed) (ps : List Placed) → Begins s at r rs → (b : Bool) → eqb (r .tag) t ≡ b
+  stands-by : (at : ℕ) (r : Rec) (rs : List Rec) (p : Located) (ps : List Located) → Begins s at r rs → (b : Bool) → eqb (r .tag) t ≡ b
       → tagged t at (r ∷ rs) ≡ p ∷ ps → (tagged t (at + size r) rs ≡ p ∷ ps → Stands s t p ps) → Stands s t p ps
   stands-by at r rs p ps b true q e further =
       let h = tagged-here t at r rs (eqb-true _ _ q) in
@@ -65,7 +65,7 @@ module _ (s : List ℕ) (bs : Bytes s) (t : ℕ) where
       rw (← same, ← left) (record { inside = b .inside; is = b .is; behind = refl })
   stands-by at r rs p ps b false q e further = further (sym (tagged-other t at r rs (eqb-false _ _ q)) ∙ e)
 
-  pub stands : (rs : List Rec) (at cap : ℕ) → rest cap s at ≡ rs → (p : Placed) (ps : List Placed) → tagged t at rs ≡ p ∷ ps → Stands s t p ps
+  pub stands : (rs : List Rec) (at cap : ℕ) → rest cap s at ≡ rs → (p : Located) (ps : List Located) → tagged t at rs ≡ p ∷ ps → Stands s t p ps
   stands [] at cap e p ps q =
       let none-left = tagged-none t at in
       absurd (let z : _≡_ {A = ℕ} 0 1 = cc in omega arith)
@@ -76,36 +76,36 @@ module _ (s : List ℕ) (bs : Bytes s) (t : ℕ) where
 
 -- ---- the ways out of the search for the one
 
-onlyOf-low : (p : Placed) (ps : List Placed) → (p .it .level ≡ 0 → ⊥) → onlyOf (p ∷ ps) ≡ wrong (p .at)
+onlyOf-low : (p : Located) (ps : List Located) → (p .it .level ≡ 0 → ⊥) → onlyOf (p ∷ ps) ≡ wrong (p .at)
 unfolding onlyOf
 onlyOf-low p [] h = simp (ne-eqb (p .it .level) 0 h)
 onlyOf-low p (q ∷ qs) h = simp (ne-eqb (p .it .level) 0 h)
 
-onlyOf-doubled : (p q : Placed) (qs : List Placed) → p .it .level ≡ 0 → onlyOf (p ∷ q ∷ qs) ≡ wrong (q .at)
+onlyOf-doubled : (p q : Located) (qs : List Located) → p .it .level ≡ 0 → onlyOf (p ∷ q ∷ qs) ≡ wrong (q .at)
 unfolding onlyOf
 onlyOf-doubled p q qs h = simp (eq-eqb (p .it .level) 0 h)
 
-pub onlyOf-one : (p : Placed) → p .it .level ≡ 0 → onlyOf (p ∷ []) ≡ one p
+pub onlyOf-one : (p : Located) → p .it .level ≡ 0 → onlyOf (p ∷ []) ≡ one p
 unfolding onlyOf
 onlyOf-one p h = simp (eq-eqb (p .it .level) 0 h)
 
 -- what a finding says of the records with the tag
-pub record Heads (ps : List Placed) (r : Record) : Type 0 where
-  pub first : Placed
-  pub others : List Placed
+pub record Heads (ps : List Located) (r : Record) : Type 0 where
+  pub first : Located
+  pub others : List Located
   pub are : ps ≡ first ∷ others
   pub met : r ≡ recordOf first
 
-sought-some : (ps : List Placed) (r : Record) → soughtOf ps ≡ S.Record r → Heads ps r
+sought-some : (ps : List Located) (r : Record) → soughtOf ps ≡ S.Record r → Heads ps r
 sought-some [] r e = absurd (let z : _≡_ {A = ℕ} 0 1 = cc in omega arith)
 sought-some (p ∷ ps) r e = record { first = p; others = ps; are = refl; met = cc }
 
-sought-none : (ps : List Placed) → soughtOf ps ≡ S.Nothing → ps ≡ []
+sought-none : (ps : List Located) → soughtOf ps ≡ S.Nothing → ps ≡ []
 sought-none [] e = refl
 sought-none (p ∷ ps) e = absurd (let z : _≡_ {A = ℕ} 0 1 = cc in omega arith)
 
 module _ (s : List ℕ) (t : ℕ) where
-  abbrev all : List Placed
+  abbrev all : List Located
   all = tagged t 0 (rest 0 s 0)
 
   only-is : only t (readAll s .recs) ≡ onlyOf all
@@ -133,7 +133,7 @@ module _ (s : List ℕ) (t : ℕ) where
 
     module _ (h : r .level ≡ 0) where
       -- the records with the tag behind it
-      abbrev behind : List Placed
+      abbrev behind : List Located
       behind = tagged t (r .next .0) (rest 1 s (r .next .0))
 
       others-are : k .others ≡ behind
@@ -141,30 +141,30 @@ module _ (s : List ℕ) (t : ℕ) where
           let next : k .first .it .level + 1 ≡ 1 = omega (arith, level-is) in
           stood .behind
           ∙ ap (tagged t (recordOf (k .first) .next .0))
-          (sym (ap (λ (x : Placed). x .behind) (stood .is)) ∙ ap (λ (c : ℕ). rest c s (recordOf (k .first) .next .0)) next)
+          (sym (ap (λ (x : Located). x .behind) (stood .is)) ∙ ap (λ (c : ℕ). rest c s (recordOf (k .first) .next .0)) next)
           ∙ ap (λ (x : Record). tagged t (x .next .0) (rest 1 s (x .next .0))) (sym (k .met))
 
       pub only-doubled : (second : Record) → soughtOf behind ≡ S.Record second → O.Wrong (second .at) ≡ soleOf (only t (readAll s .recs))
       only-doubled second f =
           let j = sought-some behind second f in
-          let two : all ≡ k .first ∷ j .first ∷ j .others = k .are ∙ ap (λ (l : List Placed). k .first ∷ l) (others-are ∙ j .are) in
+          let two : all ≡ k .first ∷ j .first ∷ j .others = k .are ∙ ap (λ (l : List Located). k .first ∷ l) (others-are ∙ j .are) in
           ap (λ (x : Record). O.Wrong (x .at)) (j .met)
           ∙ sym (ap soleOf (only-is ∙ ap onlyOf two ∙ onlyOf-doubled (k .first) (j .first) (j .others) (sym level-is ∙ h)))
 
       pub only-one : soughtOf behind ≡ S.Nothing → O.One r ≡ soleOf (only t (readAll s .recs))
       only-one f =
-          let alone : all ≡ k .first ∷ [] = k .are ∙ ap (λ (l : List Placed). k .first ∷ l) (others-are ∙ sought-none behind f) in
+          let alone : all ≡ k .first ∷ [] = k .are ∙ ap (λ (l : List Located). k .first ∷ l) (others-are ∙ sought-none behind f) in
           ap O.One (k .met) ∙ sym (ap soleOf (only-is ∙ ap onlyOf alone ∙ onlyOf-one (k .first) (sym level-is ∙ h)))
 
 -- ---- what the one record is
 
-pub onlyOf-is : (ps : List Placed) (p : Placed) → onlyOf ps ≡ one p → (ps ≡ p ∷ []) × (p .it .level ≡ 0)
+pub onlyOf-is : (ps : List Located) (p : Located) → onlyOf ps ≡ one p → (ps ≡ p ∷ []) × (p .it .level ≡ 0)
 unfolding onlyOf
 onlyOf-is [] p e = absurd (let z : _≡_ {A = ℕ} 0 1 = cc in omega arith)
 onlyOf-is (q ∷ []) p e = by-level (eqb (q .it .level) 0) refl e
   where
     by-level : (b : Bool) → eqb (q .it .level) 0 ≡ b → cond b (one q) (wrong (q .at)) ≡ one p → (q ∷ [] ≡ p ∷ []) × (p .it .level ≡ 0)
-    by-level true l k = let same : q ≡ p = cc in (ap (λ (x : Placed). x ∷ []) same, ap (λ (x : Placed). x .it .level) (sym same) ∙ eqb-true _ _ l)
+    by-level true l k = let same : q ≡ p = cc in (ap (λ (x : Located). x ∷ []) same, ap (λ (x : Located). x .it .level) (sym same) ∙ eqb-true _ _ l)
     by-level false l k = absurd (let z : _≡_ {A = ℕ} 0 1 = cc in omega arith)
 onlyOf-is (q ∷ r ∷ rs) p e = absurd (let z : _≡_ {A = ℕ} 0 1 = cc in omega arith)
 
@@ -173,8 +173,8 @@ sole-wrong (one p) o e = absurd (let z : _≡_ {A = ℕ} 0 1 = cc in omega arith
 sole-wrong (wrong a) o e = let same : record { 0 = a } ≡ o = cc in ap (λ (k : Offset). wrong (k .0)) same
 
 pub record Alone (s : List ℕ) (t : ℕ) (r : Record) : Type 0 where
-  pub is : only t (readAll s .recs) ≡ one (placedAt s r)
-  pub inside : Within s r
+  pub is : only t (readAll s .recs) ≡ one (locatedAt s r)
+  pub inside : InStream s r
   pub level : r .level ≡ 0
 
 module _ (s : List ℕ) (bs : Bytes s) (t : ℕ) (r : Record) where

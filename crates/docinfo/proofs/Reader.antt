@@ -2,25 +2,26 @@
 -- and one 17, both at level 0 and long enough, and the counts of 17 are those of its children. Assumes nothing.
 use Prim.Native.Nat.{ℕ, _+_, _≤_}
 use native.Mathlib.Omega.{arith}
-use mathlib.Core.Path.{_≡_, refl, sym, ap, _∙_}
+use mathlib.Core.Path.{_≡_, refl, sym, ap, _∙_, subst}
 use mathlib.Core.Bool.{Bool, true, false, cond}
 use mathlib.Core.Option.{Option, none, some}
-use mathlib.Core.List.{List}
+use mathlib.Core.List.{List, _∷_}
 use lib.Dec.{ltb, eqb}
 use lib.ListN.{length}
 use borrow.Author.Tests.{ltb-false, eqb-true, le-ltb, eq-eqb}
 use Rattle.numbers.specs.Little.{Bytes}
-use Rattle.records.specs.Records.{Rec, encode}
+use Rattle.records.specs.Records.{Rec, Lawful, encode}
+use Rattle.records.specs.Parents.{WithParent, children}
 use Rattle.records.specs.Reading.{Read, readAll}
 use Rattle.records.specs.Table.{readAnswer}
 use Rattle.records.specs.declared.fault.Refusal.{Refusal}
 use Rattle.records.specs.declared.fault.Answer.{Answer}
 use Rattle.records.specs.declared.fault.Answer.the-variants as A
+use Rattle.records.proofs.ParentLaws.{children-exactly, lawful-behind}
 use Rattle.records.proofs.Reader.{IsStream, accepted-stream, stream-records, stream-accepted}
-use Rattle.docinfo.specs.Children.{children}
-use Rattle.docinfo.specs.Only.{Placed, tagged, Only, one, wrong, onlyOf, only}
+use Rattle.docinfo.specs.Only.{Located, tagged, Only, one, wrong, onlyOf, only}
 use Rattle.docinfo.specs.DocInfo.{kidsOf, countRefusal, bodiesFault, judged, docinfoFault, ruled, further, docinfoAnswer}
-use Rattle.docinfo.specs.Sound.{Single, CountsHold, Sound}
+use Rattle.docinfo.specs.SoundDocInfo.{Single, CountsHold, SoundDocInfo}
 use Rattle.docinfo.proofs.OnlyLaws.{onlyOf-is, onlyOf-one}
 use Rattle.docinfo.proofs.AnswerLaws.{answer-accepted}
 use Rattle.docinfo.proofs.SoundLaws.{Split, tagged-split, split-tagged, counts-hold, counts-fine}
@@ -28,7 +29,7 @@ use Rattle.docinfo.proofs.SoundLaws.{Split, tagged-split, split-tagged,
 -- ---- the only record
 
 module _ (t : ℕ) (rs : List Rec) where
-  abbrev singleOf : (p : Placed) → Split t rs p → p .it .level ≡ 0 → Single t rs
+  abbrev singleOf : (p : Located) → Split t rs p → p .it .level ≡ 0 → Single t rs
   singleOf p k l =
       record {
         before = k .before;
@@ -41,12 +42,12 @@ module _ (t : ℕ) (rs : List Rec) where
         none-behind = k .none-behind;
       }
 
-  only-split : (p : Placed) → only t rs ≡ one p → Split t rs p × (p .it .level ≡ 0)
+  only-split : (p : Located) → only t rs ≡ one p → Split t rs p × (p .it .level ≡ 0)
   unfolding only
   only-split p e = let k = onlyOf-is (tagged t 0 rs) p e in (tagged-split t 0 rs p (k .0), k .1)
 
   -- where it stands: its place is the length of the stream before it
-  abbrev placed : Single t rs → Placed
+  abbrev placed : Single t rs → Located
   placed k = record { at = 0 + length (encode (k .before)); it = k .it; behind = k .behind }
 
   split-only : (k : Single t rs) → only t rs ≡ one (placed k)
@@ -56,9 +57,17 @@ module _ (t : ℕ) (rs : List Rec) where
       ∙ ap onlyOf (split-tagged t 0 (k .before) (k .it) (k .behind) (k .none-before) (k .tag-is) (k .none-behind))
       ∙ onlyOf-one (placed k) (k .level-is)
 
+-- the children that are counted are the records whose parent is record 17, whatever stands before it
+pub children-of-17 : (rs before : List Rec) → Lawful 0 rs → (m : Single 17 rs)
+    → WithParent (m .it) before (m .it ∷ before) (m .behind) (children 1 (m .behind))
+children-of-17 rs before l m =
+    let lawful = lawful-behind 0 (m .before) (m .it) (m .behind) (subst (Lawful 0) (m .whole) l) in
+    children-exactly (m .it) before (m .behind) (children 1 (m .behind)) lawful .0
+    (ap (λ (n : ℕ). children n (m .behind)) (omega (arith, m .level-is)))
+
 -- ---- the bodies
 
-pub record BodiesHold (p m : Placed) : Type 0 where
+pub record BodiesHold (p m : Located) : Type 0 where
   pub properties-long : 30 ≤ length (p .it .body)
   pub mappings-long : length (m .it .body) ≡ 32
   pub counts : CountsHold (m .it .body) (children 1 (m .behind))
@@ -72,7 +81,7 @@ met : (b : Bool) (x : Option Refusal) (r : Refusal) → cond b x (some r) ≡ no
 met true x r e = (refl, e)
 met false x r e = absurd (let z : _≡_ {A = ℕ} 0 1 = cc in omega arith)
 
-module _ (p m : Placed) where
+module _ (p m : Located) where
   counts-none : (o : Option ℕ) → countRefusal (m .at) o ≡ none → o ≡ none
   counts-none none e = refl
   counts-none (some i) e = absurd (let z : _≡_ {A = ℕ} 0 1 = cc in omega arith)
@@ -100,7 +109,7 @@ module _ (p m : Placed) where
 -- ---- DocInfo's records
 
 module _ (rs : List Rec) where
-  sound-by : (x y : Only) → only 16 rs ≡ x → only 17 rs ≡ y → judged x y ≡ none → Sound rs
+  sound-by : (x y : Only) → only 16 rs ≡ x → only 17 rs ≡ y → judged x y ≡ none → SoundDocInfo rs
   unfolding judged
   sound-by (wrong a) y q r e = absurd (let z : _≡_ {A = ℕ} 0 1 = cc in omega arith)
   sound-by (one p) (wrong b) q r e = absurd (let z : _≡_ {A = ℕ} 0 1 = cc in omega arith)
@@ -117,11 +126,11 @@ module _ (rs : List Rec) where
       }
 
   -- no fault is found exactly where DocInfo is sound
-  pub faultless-sound : docinfoFault rs ≡ none → Sound rs
+  pub faultless-sound : docinfoFault rs ≡ none → SoundDocInfo rs
   unfolding docinfoFault
   faultless-sound e = sound-by (only 16 rs) (only 17 rs) refl refl e
 
-  pub sound-faultless : Sound rs → docinfoFault rs ≡ none
+  pub sound-faultless : SoundDocInfo rs → docinfoFault rs ≡ none
   unfolding docinfoFault judged
   sound-faultless k =
       simp (split-only 16 rs (k .properties), split-only 17 rs (k .mappings))
@@ -132,7 +141,7 @@ module _ (rs : List Rec) where
 -- s is DocInfo, of the records rs, n of them, within the limit and the room
 pub record IsDocInfo (s : List ℕ) (room n : ℕ) (rs : List Rec) : Type 0 where
   pub stream : IsStream s room n rs
-  pub sound : Sound rs
+  pub sound : SoundDocInfo rs
 
 ruled-none : (n : ℕ) (o : Option Refusal) → ruled n o ≡ A.Accepted n → o ≡ none
 ruled-none n none e = refl

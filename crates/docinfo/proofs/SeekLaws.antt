@@ -6,7 +6,7 @@ use borrow.Author.Tests.{eq-eqb, ne-eqb}
 use Rattle.records.specs.Records.{Rec, size}
 use Rattle.records.specs.declared.header.Record.{Record}
 use Rattle.records.proofs.ReadingLaws.{Here}
-use Rattle.docinfo.specs.Children.{keepIf}
+use Rattle.records.specs.Parents.{keepIf}
 use Rattle.docinfo.specs.Only.{tagged, soughtOf}
 use Rattle.docinfo.specs.declared.seek.Sought.the-variants as S
 use Rattle.docinfo.proofs.WalkLaws.{rest, walk-next}

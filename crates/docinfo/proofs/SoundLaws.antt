@@ -12,11 +12,11 @@ use lib.ListN.{length}
 use borrow.Author.Tests.{leb-false, eqb-true, eqb-false, lt-leb, eq-eqb}
 use Rattle.numbers.specs.Little.{span}
 use Rattle.records.specs.Records.{Rec, encode, size}
+use Rattle.records.specs.Parents.{Lacks}
 use Rattle.records.proofs.ScanLaws.{length-encode}
-use Rattle.docinfo.specs.Children.{tally}
-use Rattle.docinfo.specs.Only.{Placed, tagged}
-use Rattle.docinfo.specs.Counts.{countAt, negative, negativeFrom, sumFrom, groups, unmatched, orElse, countFault}
-use Rattle.docinfo.specs.Sound.{Lacks, CountsHold}
+use Rattle.docinfo.specs.Only.{Located, tagged}
+use Rattle.docinfo.specs.Counts.{tally, countAt, negative, negativeFrom, sumFrom, groups, unmatched, orElse, countFault}
+use Rattle.docinfo.specs.SoundDocInfo.{CountsHold}
 use Rattle.docinfo.specs.declared.counts.Group.{Group}
 use Rattle.docinfo.proofs.SeekLaws.{tagged-here, tagged-other, tagged-none}
 
@@ -48,14 +48,14 @@ split-tagged t at (r ∷ rs) it behind l e k =
     ∙ split-tagged t (at + size r) rs it behind (l .1) e k
     ∙ ap (λ (a : ℕ). record { at = a; it = it; behind = behind } ∷ []) sum
 
-pub record Split (t : ℕ) (rs : List Rec) (p : Placed) : Type 0 where
+pub record Split (t : ℕ) (rs : List Rec) (p : Located) : Type 0 where
   pub before : List Rec
   pub whole : rs ≡ before ++ p .it ∷ p .behind
   pub tag-is : p .it .tag ≡ t
   pub none-before : Lacks t before
   pub none-behind : Lacks t (p .behind)
 
-pub tagged-split : (t at : ℕ) (rs : List Rec) (p : Placed) → tagged t at rs ≡ p ∷ [] → Split t rs p
+pub tagged-split : (t at : ℕ) (rs : List Rec) (p : Located) → tagged t at rs ≡ p ∷ [] → Split t rs p
 tagged-split t at [] p e = let h = tagged-none t at in absurd (let z : _≡_ {A = ℕ} 0 1 = cc in omega arith)
 tagged-split t at (r ∷ rs) p e = by-tag (eqb (r .tag) t) refl (tagged-split t (at + size r) rs p)
   where

@@ -1,16 +1,25 @@
 -- The counts of record 17 and what they are matched with (document 01, 'DocInfo', tables 10 and 11), over the width of a count.
 use Prim.Native.Nat.{ℕ, zero, suc, _+_, _*_}
-use mathlib.Core.Bool.{Bool, cond}
+use mathlib.Core.Bool.{Bool, true, false, cond}
 use mathlib.Core.Option.{Option, none, some}
 use mathlib.Core.List.{List, [], _∷_}
 use lib.Dec.{leb, eqb}
 use lib.ListN.{getD, drop}
 use Rattle.numbers.specs.Little.{little, span}
 use Rattle.records.specs.Records.{Rec}
-use Rattle.docinfo.specs.Children.{tally}
 use Rattle.docinfo.specs.declared.counts.Group.{Group}
 use Rattle.docinfo.specs.declared.counts.Verdict.{Verdict}
 use Rattle.docinfo.specs.declared.counts.Verdict.the-variants as W
+
+-- one where the test holds, and else none
+unfoldable pub once : Bool → ℕ
+once true = 1
+once false = 0
+
+-- how many records have a tag
+unfoldable pub tally : ℕ → List Rec → ℕ
+tally t [] = 0
+tally t (r ∷ rs) = once (eqb (r .tag) t) + tally t rs
 
 -- the bits of count i, where each count has w bytes
 unfoldable pub countAt : ℕ → List ℕ → ℕ → ℕ

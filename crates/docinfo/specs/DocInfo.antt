@@ -6,6 +6,7 @@ use mathlib.Core.List.{List}
 use lib.Dec.{ltb, eqb}
 use lib.ListN.{length}
 use Rattle.records.specs.Records.{Rec}
+use Rattle.records.specs.Parents.{children}
 use Rattle.records.specs.Reading.{readAll}
 use Rattle.records.specs.Table.{readAnswer}
 use Rattle.records.specs.declared.fault.Fault.{Fault}
@@ -13,15 +14,14 @@ use Rattle.records.specs.declared.fault.Fault.the-variants as F
 use Rattle.records.specs.declared.fault.Refusal.{Refusal}
 use Rattle.records.specs.declared.fault.Answer.{Answer}
 use Rattle.records.specs.declared.fault.Answer.the-variants as A
-use Rattle.docinfo.specs.Children.{children}
-use Rattle.docinfo.specs.Only.{Placed, Only, one, wrong, only}
+use Rattle.docinfo.specs.Only.{Located, Only, one, wrong, only}
 use Rattle.docinfo.specs.Counts.{countFault}
 
 abbrev pub faultAt : Fault → ℕ → Option Refusal
 faultAt f p = some (record { fault = f; place = record { 0 = p } })
 
 -- the children of record 17, which stands at level 0
-unfoldable pub kidsOf : Placed → List Rec
+unfoldable pub kidsOf : Located → List Rec
 kidsOf m = children 1 (m .behind)
 
 -- 18 at record 17, where a count is at fault
@@ -30,7 +30,7 @@ countRefusal p none = none
 countRefusal p (some i) = faultAt F.CountUnmatched p
 
 -- 17 for record 16, 17 for record 17, 18: record 16 has 30 bytes or more, record 17 sixteen counts of two bytes
-unfoldable pub bodiesFault : Placed → Placed → Option Refusal
+unfoldable pub bodiesFault : Located → Located → Option Refusal
 bodiesFault p m =
     cond (ltb (length (p .it .body)) 30) (faultAt F.DocInfoLength (p .at))
     (cond (eqb (length (m .it .body)) 32) (countRefusal (m .at) (countFault 2 (m .it .body) (kidsOf m)))

@@ -6,10 +6,10 @@ use lib.Dec.{T, eqb}
 use lib.ListN.{replicate}
 use Rattle.numbers.specs.Little.{little, span, bytesOf}
 use Rattle.records.specs.Records.{Rec, leadOf, size}
+use Rattle.records.specs.Parents.{keepIf, children}
 use Rattle.records.specs.Answers.{number, place}
-use Rattle.docinfo.specs.Children.{keepIf, children, once, tally}
 use Rattle.docinfo.specs.Only.{tagged, onlyOf, only}
-use Rattle.docinfo.specs.Counts.{countAt, negative, negativeFrom, sumFrom, groups, unmatched, orElse, countFault}
+use Rattle.docinfo.specs.Counts.{once, tally, countAt, negative, negativeFrom, sumFrom, groups, unmatched, orElse, countFault}
 use Rattle.docinfo.specs.DocInfo.{kidsOf, bodiesFault, judged, docinfoFault, ruled}
 
 pub record Example : Type 0 where

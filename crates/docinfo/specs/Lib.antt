@@ -1,7 +1,5 @@
-pub mod Children
 pub mod Only
 pub mod Counts
 pub mod DocInfo
-pub mod Sound
-pub mod Promise
+pub mod SoundDocInfo
 pub mod Examples

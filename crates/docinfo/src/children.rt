@@ -7,8 +7,9 @@ ghost use mathlib.Core.Bool.{_&&_};
 ghost use Prim.Native.Nat.{_≤_};
 ghost use lib.Dec.{eqb};
 ghost use lib.ListN.{drop};
+ghost use Rattle.records.specs.Parents.{children};
 ghost use Rattle.records.specs.Reading.{readFrom};
-ghost use Rattle.docinfo.specs.Children.{children, once, tally};
+ghost use Rattle.docinfo.specs.Counts.{once, tally};
 
 // One more for a child at level n with the tag.
 fn one_if(level: u32, n: u32, tag: u32, wanted: u32) -> usize

@@ -5,8 +5,8 @@ use records::Offset;
 ghost use mathlib.Core.Path.{_≡_};
 ghost use Prim.Native.Nat.{_+_, _≤_, _<_};
 ghost use lib.ListN.{drop};
+ghost use Rattle.records.specs.Parents.{children};
 ghost use Rattle.records.specs.Reading.{readFrom};
-ghost use Rattle.docinfo.specs.Children.{children};
 ghost use Rattle.docinfo.specs.Counts.{countAt, negativeFrom, sumFrom, groups, groupAt, unmatched, verdictOf, countFault};
 
 // Counts that sum to the number of children with a tag.

@@ -10,23 +10,23 @@ use records::Record;
 use records::refused;
 ghost use mathlib.Core.Path.{_≡_};
 ghost use Rattle.records.specs.Reading.{readAll};
-ghost use Rattle.records.specs.Table.{entered, Table, shortest};
-ghost use Rattle.docinfo.specs.Only.{placedAt, Within};
+ghost use Rattle.records.specs.Promise.{Promised};
+ghost use Rattle.docinfo.specs.Only.{locatedAt, InStream};
 ghost use Rattle.docinfo.specs.DocInfo.{bodiesFault, docinfoFault, ruled, docinfoAnswer};
 
 // 17 for record 16, 17 for record 17, 18; else n records are accepted.
 fn judge_bodies(s: &[u8], n: usize, properties: Record, mappings: Record) -> Answer
-    requires { ⌜ (Within (now s) properties) × (Within (now s) mappings) × (mappings .level ≡ 0) ⌝ }
-    ensures { λ r. ⌜ r ≡ ruled n (bodiesFault (placedAt (now (s .entry)) properties) (placedAt (now (s .entry)) mappings)) ⌝ }
+    requires { ⌜ (InStream (now s) properties) × (InStream (now s) mappings) × (mappings .level ≡ 0) ⌝ }
+    ensures { λ r. ⌜ r ≡ ruled n (bodiesFault (locatedAt (now (s .entry)) properties) (locatedAt (now (s .entry)) mappings)) ⌝ }
 {
-    if properties.length < 30 {
+    if properties.len < 30 {
         return refused(Fault::DocInfoLength, properties.at);
     }
-    if mappings.length != 32 {
+    if mappings.len != 32 {
         return refused(Fault::DocInfoLength, mappings.at);
     }
     let body = mappings.body;
-    match judge_counts(s, part(s, body.0, mappings.length), mappings.next) {
+    match judge_counts(s, part(s, body.0, mappings.len), mappings.next) {
         Verdict::Sound => Answer::Accepted(n),
         Verdict::Fault(_) => refused(Fault::CountUnmatched, mappings.at),
     }
@@ -64,8 +64,7 @@ pub fn read_docinfo(
     places: &mut [u32],
     lengths: &mut [u32],
 ) -> Answer
-    ensures answer { λ r. ⌜ r ≡ docinfoAnswer (now (s .entry)) (shortest (now (tags .entry)) (now (levels .entry)) (now (places .entry)) (now (lengths .entry))) ⌝ }
-    ensures table { λ r. ⌜ Table (entered r (readAll (now (s .entry)) .recs)) (now (tags .entry)) (now (tags .exit)) (now (levels .entry)) (now (levels .exit)) (now (places .entry)) (now (places .exit)) (now (lengths .entry)) (now (lengths .exit)) ⌝ }
+    ensures { λ r. ⌜ Promised docinfoAnswer (now (s .entry)) (now (tags .entry)) (now (levels .entry)) (now (places .entry)) (now (lengths .entry)) r (now (tags .exit)) (now (levels .exit)) (now (places .exit)) (now (lengths .exit)) ⌝ }
 {
     match check_docinfo(s, records::room(tags, levels, places, lengths)) {
         Answer::Accepted(_) => records::read(s, tags, levels, places, lengths),

@@ -1,15 +1,15 @@
 -- The passes over shapes and marks: what is still to be judged, and one law for each way that it goes on. Assumes nothing.
-use Prim.Native.Nat.{ℕ, suc, _+_, _-_, _*_, _/_, _≤_, _<_, max}
+use Prim.Native.Nat.{ℕ, zero, suc, _+_, _-_, _*_, _/_, _≤_, _<_, max}
 use native.Mathlib.Omega.{arith}
 use native.Mathlib.Nat.{sub-zero}
 use mathlib.Core.Path.{_≡_, refl, sym, ap, _∙_}
 use mathlib.Core.Option.{none}
-use mathlib.Core.List.{List, [], _∷_}
+use mathlib.Core.List.{List, [], _∷_, map}
 use lib.ListN.{length, drop}
 use lib.Seq.{drop-drop}
-use borrow.Author.Tests.{le-leb, lt-leb, lt-ltb, le-ltb}
+use borrow.Author.Tests.{le-leb, lt-leb, lt-ltb, le-ltb, eq-eqb, ne-eqb}
 use Rattle.numbers.specs.Little.{little}
-use Rattle.entries.specs.Entries.{entries, startFault, shapesFault, markFault, marksFault, entriesOf}
+use Rattle.entries.specs.Entries.{entries, laterFault, startFault, shapesFault, markFault, marksFault, entriesOf}
 use Rattle.entries.specs.declared.Entries.the-variants as E
 
 -- ---- entries of any width
@@ -25,45 +25,59 @@ module _ (w n i : ℕ) (b : List ℕ) where
   unfolding entries
   entries-end h = let none : n - i ≡ 0 = omega arith in rw none
 
+pub entries-some : (w n : ℕ) (b : List ℕ) → (n ≡ 0 → ⊥) → entries w n b ≡ b ∷ entries w (n - 1) (drop w b)
+unfolding entries
+entries-some w zero b h = absurd (h refl)
+entries-some w (suc n) b h = let e : suc n - 1 ≡ n = omega arith in rw e
+
 -- ---- shapes
 
-pub record Rising (b : List ℕ) (count n bound i low high : ℕ) : Type 0 where
+-- what is at fault is what is at fault from start i on, behind the start `before`
+pub record Rising (b : List ℕ) (count n bound i before : ℕ) : Type 0 where
   pub number : n ≡ length b / 8
   pub limit : bound ≡ max 1 count
-  pub below : high ≤ bound
-  pub rest : shapesFault count b ≡ startFault i low high bound (entries 8 (n - i) (drop (8 * i) b))
+  pub rest : shapesFault count b ≡ laterFault i before bound (map (little 4) (entries 8 (n - i) (drop (8 * i) b)))
 
-pub rising-start : (b : List ℕ) (count bound : ℕ) → bound ≡ max 1 count → Rising b count (length b / 8) bound 0 0 1
-unfolding shapesFault
-rising-start b count bound e = record { number = refl; limit = e; below = omega arith; rest = rw (e, sub-zero) }
+pub shapes-none : (b : List ℕ) (count : ℕ) → length b / 8 ≡ 0 → E.Sound ≡ entriesOf (shapesFault count b)
+unfolding shapesFault startFault entries
+shapes-none b count e = rw e
 
-module _ {b : List ℕ} {count n bound i low high : ℕ} (k : Rising b count n bound i low high) where
+-- the first start
+module _ (b : List ℕ) (count : ℕ) (x : ℕ) (some : length b / 8 ≡ 0 → ⊥) (is : x ≡ little 4 b) where
+  first : shapesFault count b ≡ startFault (max 1 count) (little 4 b ∷ map (little 4) (entries 8 (length b / 8 - 1) (drop 8 b)))
+  unfolding shapesFault
+  first = ap (λ (l : List (List ℕ)). startFault (max 1 count) (map (little 4) l)) (entries-some 8 (length b / 8) b some)
+
+  pub shapes-first : (x ≡ 0 → ⊥) → E.Wrong 0 ≡ entriesOf (shapesFault count b)
+  unfolding startFault
+  shapes-first g = sym (ap entriesOf first ∙ rw (← is, ne-eqb x 0 g))
+
+  pub rising-start : (bound : ℕ) → bound ≡ max 1 count → x ≡ 0 → Rising b count (length b / 8) bound 1 x
+  unfolding startFault
+  rising-start bound e z = record { number = refl; limit = e; rest = first ∙ rw (← is, eq-eqb x 0 z, e) }
+
+module _ {b : List ℕ} {count n bound i before : ℕ} (k : Rising b count n bound i before) where
   module _ (x : ℕ) (h : i < n) (is : x ≡ little 4 (drop (8 * i) b)) where
-    here : shapesFault count b ≡ startFault i low high bound (drop (8 * i) b ∷ entries 8 (n - (i + 1)) (drop (8 * i + 8) b))
-    here = k .rest ∙ ap (startFault i low high bound) (entries-next 8 n i b h)
+    here : shapesFault count b ≡ laterFault i before bound (little 4 (drop (8 * i) b) ∷ map (little 4) (entries 8 (n - (i + 1)) (drop (8 * i + 8) b)))
+    here = k .rest ∙ ap (λ (l : List (List ℕ)). laterFault i before bound (map (little 4) l)) (entries-next 8 n i b h)
 
-    pub rising-low : x < low → E.Wrong i ≡ entriesOf (shapesFault count b)
-    unfolding startFault
-    rising-low g = sym (ap entriesOf here ∙ rw (← is, lt-leb low x g))
+    pub rising-low : x ≤ before → E.Wrong i ≡ entriesOf (shapesFault count b)
+    unfolding laterFault
+    rising-low g = sym (ap entriesOf here ∙ rw (← is, le-ltb before x g))
 
-    pub rising-high : low ≤ x → high ≤ x → E.Wrong i ≡ entriesOf (shapesFault count b)
-    unfolding startFault
-    rising-high f g = sym (ap entriesOf here ∙ rw (← is, le-leb low x f, le-ltb x high g))
+    pub rising-high : before < x → bound ≤ x → E.Wrong i ≡ entriesOf (shapesFault count b)
+    unfolding laterFault
+    rising-high f g = sym (ap entriesOf here ∙ rw (← is, lt-ltb before x f, le-ltb x bound g))
 
-    pub rising-next : low ≤ x → x < high → Rising b count n bound (i + 1) (x + 1) bound
-    unfolding startFault
+    pub rising-next : before < x → x < bound → Rising b count n bound (i + 1) x
+    unfolding laterFault
     rising-next f g =
         let step : 8 * i + 8 ≡ 8 * (i + 1) = omega arith in
-        record {
-          number = k .number;
-          limit = k .limit;
-          below = omega arith;
-          rest = here ∙ rw (← is, le-leb low x f, lt-ltb x high g, step);
-        }
+        record { number = k .number; limit = k .limit; rest = here ∙ rw (← is, lt-ltb before x f, lt-ltb x bound g, step) }
 
   pub rising-end : n ≤ i → E.Sound ≡ entriesOf (shapesFault count b)
-  unfolding startFault
-  rising-end h = sym (ap entriesOf (k .rest ∙ ap (startFault i low high bound) (entries-end 8 n i b h)))
+  unfolding laterFault
+  rising-end h = sym (ap entriesOf (k .rest ∙ ap (λ (l : List (List ℕ)). laterFault i before bound (map (little 4) l)) (entries-end 8 n i b h)))
 
 -- ---- marks
 

@@ -21,21 +21,26 @@ pub fn judge_shapes(b: &[u8], count: u32) -> Entries
     ensures { λ r. ⌜ r ≡ entriesOf (shapesFault count (now (b .entry))) ⌝ }
 {
     let n = b.len() / 8;
+    if n == 0 {
+        return Entries::Sound;
+    }
+    let first = number32(b);
+    if first != 0 {
+        return Entries::Wrong(0);
+    }
     let bound = at_least_one(count);
-    let mut i: usize = 0;
-    let mut low: u32 = 0;
-    let mut high: u32 = 1;
+    let mut before = first;
+    let mut i: usize = 1;
     while i < n {
         let at = 8 * i;
         let start = number32(&b[at..]);
-        if start < low {
+        if start <= before {
             return Entries::Wrong(i);
         }
-        if high <= start {
+        if bound <= start {
             return Entries::Wrong(i);
         }
-        low = start + 1;
-        high = bound;
+        before = start;
         i = i + 1;
     }
     Entries::Sound

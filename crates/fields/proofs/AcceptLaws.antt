@@ -13,16 +13,16 @@ use Rattle.filling.specs.Filling.{textAnswer}
 use Rattle.filling.specs.declared.TextAnswer.{TextAnswer}
 use Rattle.filling.specs.declared.TextAnswer.the-variants as T
 use Rattle.search.proofs.AcceptLaws.{sectioned}
-use Rattle.fields.specs.Calls.{textAfter, fieldTextAnswer}
+use Rattle.orders.specs.Calls.{textAfterSection, fieldTextOf}
 
 -- field text
 module _ (s : List ℕ) (id : ℕ) (x : Answer) (is : x ≡ checkAnswer s) where
-  pub text-accepted : (n : ℕ) {r : TextAnswer} → Bytes s → x ≡ A.Accepted n → r ≡ textAnswer id (recordsIn s) → r ≡ fieldTextAnswer s id
-  unfolding fieldTextAnswer
+  pub text-accepted : (n : ℕ) {r : TextAnswer} → Bytes s → x ≡ A.Accepted n → r ≡ textAnswer id (recordsIn s) → r ≡ fieldTextOf s id
+  unfolding fieldTextOf
   text-accepted n bs e q =
       let g = sectioned s bs n (sym is ∙ e) in
-      q ∙ ap (textAnswer id) (g .records) ∙ ap (λ (a : Answer). textAfter a (textAnswer id (readAll s .recs))) (sym (sym is ∙ e))
+      q ∙ ap (textAnswer id) (g .records) ∙ ap (λ (a : Answer). textAfterSection a (textAnswer id (readAll s .recs))) (sym (sym is ∙ e))
 
-  pub text-not : (r : Refusal) → x ≡ A.Refused r → T.Refused r ≡ fieldTextAnswer s id
-  unfolding fieldTextAnswer
-  text-not r e = ap (λ (a : Answer). textAfter a (textAnswer id (readAll s .recs))) (sym (sym is ∙ e))
+  pub text-not : (r : Refusal) → x ≡ A.Refused r → T.Refused r ≡ fieldTextOf s id
+  unfolding fieldTextOf
+  text-not r e = ap (λ (a : Answer). textAfterSection a (textAnswer id (readAll s .recs))) (sym (sym is ∙ e))

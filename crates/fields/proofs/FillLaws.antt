@@ -26,13 +26,13 @@ use Rattle.filling.specs.Filling.{valueWrong, unmarked, fillable, sheet, fits, 
 use Rattle.filling.proofs.AnswerLaws.{fits-not, fits-room, fits-all}
 use Rattle.putting.specs.Putting.{Puts, largest}
 use Rattle.orders.specs.Calls.{fillOf, sheetOf}
+use Rattle.orders.specs.Promise.{Filled}
 use Rattle.search.specs.Searching.{told, metWith}
 use Rattle.search.specs.declared.seek.Met.{Met}
 use Rattle.search.specs.declared.seek.Met.the-variants as M
 use Rattle.records.specs.Reading.{offset}
-use Rattle.fields.specs.Outcomes.{refusal, plainField, unmarkedField, fillableField}
-use Rattle.fields.specs.Calls.{leaves, hitSheet}
-use Rattle.search.specs.Accepted.{Sound}
+use Rattle.fields.specs.Outcomes.{refusal, plainField, unmarkedField, fillableField, leaves, hitSheet}
+use Rattle.search.specs.Accepted.{Searchable}
 use Rattle.search.specs.declared.seek.Hit.{Hit}
 use Rattle.fields.specs.declared.outcome.Searched.{Searched}
 use Rattle.fields.specs.declared.outcome.Searched.the-variants as So
@@ -169,7 +169,7 @@ fillable-found id value rs k e = go (valueWrong value) refl
     go true q = absurd (let y = sym (fillable-wrong id value rs q) ∙ e in let z : _≡_ {A = ℕ} 0 1 = cc in omega arith)
     go false q = (q, unmarked-one (search id rs) k (sym (fillable-right id value rs q) ∙ e))
 
-pub hit-sheet : (s : List ℕ) (id : ℕ) (value : List ℕ) → Sound s → length s ≤ limit → Bytes s → (k : Search.Hit) → fillable id value (recordsIn s) ≡ one k
+pub hit-sheet : (s : List ℕ) (id : ℕ) (value : List ℕ) → Searchable s → length s ≤ limit → Bytes s → (k : Search.Hit) → fillable id value (recordsIn s) ≡ one k
     → hitSheet (told k) value s ≡ sheet k value (recordsIn s)
 unfolding search view
 hit-sheet s id value a small bs k e =
@@ -188,15 +188,16 @@ hit-sheet s id value a small bs k e =
 
 module _ (s : List ℕ) (id : ℕ) (value out : List ℕ) (x : Answer) (is : x ≡ checkAnswer s) where
   pub call-accepted : (n : ℕ) (r : Answer) (after : List ℕ) → Bytes s → x ≡ A.Accepted n → Outcomes id value (recordsIn s) out r after
-      → (r ≡ fillOf s id value (length out)) × (after ≡ written (sheetOf s id value (length out)) out)
+      → Filled s id value out r after
   unfolding fillOf sheetOf
   call-accepted n r after bs e put =
       let g = sectioned s bs n (sym is ∙ e) in
-      let c : checkAnswer s ≡ A.Accepted n = sym is ∙ e in (
-        put .0 ∙ ap (λ (rs : List Rec). fillAnswer id value rs (length out)) (g .records) ∙ sym (rw c refl),
-        put .1 ∙ ap (λ (rs : List Rec). written (fillBytes id value rs (length out)) out) (g .records) ∙ sym (rw (c, sheetOf) refl),
-      )
+      let c : checkAnswer s ≡ A.Accepted n = sym is ∙ e in
+      record {
+        answer = put .0 ∙ ap (λ (rs : List Rec). fillAnswer id value rs (length out)) (g .records) ∙ sym (rw c refl);
+        sheet = put .1 ∙ ap (λ (rs : List Rec). written (fillBytes id value rs (length out)) out) (g .records) ∙ sym (rw (c, sheetOf) refl);
+      }
 
-  pub call-refused : (r : Refusal) → x ≡ A.Refused r → (A.Refused r ≡ fillOf s id value (length out)) × (out ≡ written (sheetOf s id value (length out)) out)
+  pub call-refused : (r : Refusal) → x ≡ A.Refused r → Filled s id value out (A.Refused r) out
   unfolding fillOf sheetOf
-  call-refused r e = let c : checkAnswer s ≡ A.Refused r = sym is ∙ e in (sym (rw c refl), sym (rw (c, sheetOf) refl))
+  call-refused r e = let c : checkAnswer s ≡ A.Refused r = sym is ∙ e in record { answer = sym (rw c refl); sheet = sym (rw (c, sheetOf) refl) }

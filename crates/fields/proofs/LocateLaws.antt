@@ -21,7 +21,8 @@ use Rattle.filling.specs.Fields.{Field, fields, idOf, withId}
 use Rattle.filling.specs.Search.{Hit, hitOf, hits, Outcome, one, refused, outcome, search}
 use Rattle.records.specs.declared.fault.Offset.{Offset}
 use Rattle.records.specs.declared.fault.Fault.the-variants as F
-use Rattle.search.specs.Searching.{told, metWith, spanOf}
+use Rattle.search.specs.Searching.{told, metWith}
+use Rattle.search.specs.Steps.{spanOf}
 use Rattle.fields.specs.Outcomes.{refusal, plainField}
 use Rattle.fields.specs.declared.outcome.Searched.{Searched}
 use Rattle.fields.specs.declared.outcome.Searched.the-variants as So
@@ -40,7 +41,7 @@ use Rattle.filling.specs.Editing.{Edit, editHere, editAt}
 use Rattle.filling.proofs.EditLaws.{at-here, at-next, at-past}
 use Rattle.filling.proofs.FieldLaws.{Among, a-to-b}
 use Rattle.filling.proofs.SearchLaws.{hits-here, hits-past}
-use Rattle.search.specs.Accepted.{Keep, Sound}
+use Rattle.search.specs.Accepted.{Keep, Searchable}
 
 abbrev pub Met-in : Hit → List Hit → Type 0
 Met-in h [] = ⊥
@@ -161,7 +162,7 @@ module _ (s : List ℕ) (bs : Bytes s) (id : ℕ) where
 -- ---- what one search comes to
 
 -- of a whole section
-module _ (s : List ℕ) (bs : Bytes s) (id : ℕ) (h : Hit) (a : Sound s) (only : hits id 0 0 (recordsIn s) ≡ h ∷ []) where
+module _ (s : List ℕ) (bs : Bytes s) (id : ℕ) (h : Hit) (a : Searchable s) (only : hits id 0 0 (recordsIn s) ≡ h ∷ []) where
   pub here-is : Located s 0 0 (recordsIn s) h
   here-is = located s bs id 0 0 (recordsIn s) refl (a .whole) (a .keep) h (subst (Met-in h) (sym only) (inl refl))
 
@@ -224,7 +225,7 @@ pub record Only (s : List ℕ) (h : Hit) : Type 0 where
   pub a-b : h .field .a ≤ h .field .b
   pub inside : h .text + 2 * h .field .b ≤ length s
 
-module _ (s : List ℕ) (bs : Bytes s) (a : Sound s) (id : ℕ) (h : Hit) (e : search id (recordsIn s) ≡ one h) where
+module _ (s : List ℕ) (bs : Bytes s) (a : Searchable s) (id : ℕ) (h : Hit) (e : search id (recordsIn s) ≡ one h) where
   pub only : Only s h
   unfolding search fields view hitOf
   only =
@@ -245,7 +246,7 @@ module _ (s : List ℕ) (bs : Bytes s) (a : Sound s) (id : ℕ) (h : Hit) (e : s
         a-b = ab .0;
         inside =
             omega
-            (arith, ab .1, text, ap length (t .units-are), length-units (take (f .length) (drop (f .from .0) s)), length-take (f .length) (drop (f .from .0) s), t .inside);
+            (arith, ab .1, text, ap length (t .units-are), length-units (take (f .len) (drop (f .from .0) s)), length-take (f .len) (drop (f .from .0) s), t .inside);
       }
 
 -- by what was searched
@@ -273,7 +274,7 @@ pub record Bounds (s : List ℕ) (x : told-hit.Hit) : Type 0 where
   pub a-b : x .field .a .0 ≤ x .field .b .0
   pub inside : x .text .0 + 2 * x .field .b .0 ≤ length s
 
-pub bounds : (s : List ℕ) (bs : Bytes s) (a : Sound s) (id : ℕ) (x : told-hit.Hit) → searchedOf (search id (recordsIn s)) ≡ So.One x → Bounds s x
+pub bounds : (s : List ℕ) (bs : Bytes s) (a : Searchable s) (id : ℕ) (x : told-hit.Hit) → searchedOf (search id (recordsIn s)) ≡ So.One x → Bounds s x
 bounds s bs a id x e =
     let k = searched-hit (search id (recordsIn s)) x e in
     let o = only s bs a id (k .0) (k .1) in

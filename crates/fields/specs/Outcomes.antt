@@ -1,13 +1,18 @@
--- What the search met comes to, in the code's own types (document 01, 'The field search', 'Filling a field').
+-- What the code's steps come to, in its own types: nothing here has to be believed. What a search met is document 01's search by `field-met`
+-- and `fillable-met`, the sheet of a hit is document 01's sheet by `hit-sheet` (proofs/LocateLaws.antt, FillLaws.antt).
 use Prim.Native.Nat.{ℕ}
 use mathlib.Core.Bool.{cond}
-use mathlib.Core.List.{List}
+use mathlib.Core.List.{List, []}
 use lib.Dec.{eqb}
 use Rattle.records.specs.Reading.{offset}
 use Rattle.records.specs.declared.fault.Offset.{Offset}
 use Rattle.records.specs.declared.fault.Fault.{Fault}
 use Rattle.records.specs.declared.fault.Fault.the-variants as F
+use Rattle.records.specs.declared.fault.Answer.{Answer}
+use Rattle.records.specs.declared.fault.Answer.the-variants as A
 use Rattle.filling.specs.Filling.{valueWrong}
+use Rattle.writing.specs.Sheet.{fieldOf, sheetWritten}
+use Rattle.search.specs.declared.seek.Hit.{Hit}
 use Rattle.search.specs.declared.seek.Met.{Met}
 use Rattle.search.specs.declared.seek.Met.the-variants as M
 use Rattle.fields.specs.declared.outcome.Searched.{Searched}
@@ -31,3 +36,12 @@ unmarkedField (So.Refused r) = So.Refused r
 -- 20 before all of them
 unfoldable pub fillableField : List ℕ → Met → Searched
 fillableField value met = cond (valueWrong value) (refusal F.ValueWrong (offset 0)) (unmarkedField (plainField met))
+
+-- the bytes that a fill leaves at the front of its buffer: a refusal none
+abbrev pub leaves : Answer → List ℕ → List ℕ
+leaves (A.Accepted n) bs = bs
+leaves (A.Refused r) bs = []
+
+-- the sheet that is written for a hit of the search
+abbrev pub hitSheet : Hit → List ℕ → List ℕ → List ℕ
+hitSheet h value s = sheetWritten (fieldOf (h .field .ordinal) (h .field .a .0) (h .field .b .0)) value s (h .header .0)

@@ -10,7 +10,7 @@ use search::SectionSearch;
 use search::search_section;
 ghost use mathlib.Core.Path.{_≡_};
 ghost use Rattle.fields.specs.Outcomes.{plainField};
-ghost use Rattle.fields.specs.Calls.{fieldTextAnswer};
+ghost use Rattle.orders.specs.Calls.{fieldTextOf};
 
 // One plain field with the id, or a refusal: 21 to 23, for a fill 20 and 24 too.
 pub enum Searched {
@@ -44,7 +44,7 @@ pub fn find_field(met: Met) -> Searched
 
 // The text of a field: the section's numbers without 7, then 21 to 23, else where it starts and how many bytes it has.
 pub fn field_text(s: &[u8], id: u32) -> TextAnswer
-    ensures { λ r. ⌜ r ≡ fieldTextAnswer (now (s .entry)) id ⌝ }
+    ensures { λ r. ⌜ r ≡ fieldTextOf (now (s .entry)) id ⌝ }
 {
     match search_section(s, id) {
         SectionSearch::Refused(r) => TextAnswer::Refused(r),
@@ -57,7 +57,7 @@ pub fn field_text(s: &[u8], id: u32) -> TextAnswer
                 let b = field.b;
                 TextAnswer::At {
                     place: unit_place(text, a),
-                    length: 2 * (b.0 - a.0),
+                    len: 2 * (b.0 - a.0),
                 }
             }
         },

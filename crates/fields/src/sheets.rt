@@ -17,9 +17,8 @@ ghost use mathlib.Core.Path.{_≡_};
 ghost use lib.ListN.{length};
 ghost use Rattle.records.specs.Table.{written};
 ghost use Rattle.filling.specs.Filling.{fits};
-ghost use Rattle.orders.specs.Calls.{fillOf, sheetOf};
-ghost use Rattle.fields.specs.Outcomes.{fillableField};
-ghost use Rattle.fields.specs.Calls.{leaves, hitSheet};
+ghost use Rattle.orders.specs.Promise.{Filled};
+ghost use Rattle.fields.specs.Outcomes.{fillableField, leaves, hitSheet};
 
 // The field that may be filled: 20, then 21 to 23, then 24.
 fn find_fillable(met: Met, value: &[u8]) -> Searched
@@ -62,8 +61,7 @@ fn put_sheet(s: &[u8], h: Hit, value: &[u8], out: &mut [u8]) -> Answer
 // Fills the field with the id: the section's numbers without 7, then 20 to 26, else the length of the sheet, which stands at the front
 // of out. Bytes past it stay; a refusal changes no byte.
 pub fn fill(s: &[u8], id: u32, value: &[u8], out: &mut [u8]) -> Answer
-    ensures answer { λ r. ⌜ r ≡ fillOf (now (s .entry)) id (now (value .entry)) (length (now (out .entry))) ⌝ }
-    ensures sheet { λ _. ⌜ now (out .exit) ≡ written (sheetOf (now (s .entry)) id (now (value .entry)) (length (now (out .entry)))) (now (out .entry)) ⌝ }
+    ensures { λ r. ⌜ Filled (now (s .entry)) id (now (value .entry)) (now (out .entry)) r (now (out .exit)) ⌝ }
 {
     match search_section(s, id) {
         SectionSearch::Refused(r) => Answer::Refused(r),

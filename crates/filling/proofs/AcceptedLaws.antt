@@ -12,6 +12,7 @@ use borrow.Author.Tests.{eq-eqb, ne-eqb}
 use Rattle.numbers.specs.Little.{little, bytesOf, Bytes}
 use Rattle.numbers.proofs.LittleLaws.{bytes-drop}
 use Rattle.records.specs.Records.{Rec, limit, encodeOne, encode, size}
+use Rattle.records.specs.Parents.{Lacks}
 use Rattle.records.proofs.ReadingLaws.{length-encodeOne}
 use Rattle.text.proofs.Cases.{eq-or}
 use Rattle.paragraph.specs.View.{kids, View, view, views, child}
@@ -20,13 +21,14 @@ use Rattle.paragraph.proofs.BodyLaws.{kids-beyond, kids-owned, kids-passed, chi
 use Rattle.acceptance.specs.Keeps.{Keeps}
 use Rattle.acceptance.specs.Section.{AllKeep}
 use Rattle.filling.specs.Replacing.{replaced}
-use Rattle.filling.specs.Shapes.{Entry, packed, Starts, shapesIn}
+use Rattle.filling.specs.Shapes.{Entry, packed, shapesIn}
 use Rattle.filling.specs.Fields.{Field, fields}
-use Rattle.filling.specs.Editing.{Change, Edit, withBody, put, countControl, editView, editBehind, editAt, modified}
-use Rattle.filling.specs.Placing.{Leaves, Bodies, Lacks, Once, Each, Followed}
+use Rattle.filling.specs.Editing.{Change, Edit, withBody, put, countControl, editView, editBehind, editAt, modified, asChild, OwnedChild}
+use Rattle.filling.specs.Placing.{Leaves, Bodies, Once, Each, Followed}
 use Rattle.filling.specs.Search.{Hit}
 use Rattle.filling.specs.Filling.{recounted, newHead, withBit15, altered, newBody, filling, filled}
 use Rattle.filling.specs.Accepted.{AllBodies, Accepted}
+use Rattle.filling.proofs.ShapeLaws.{StartsFrom}
 use Rattle.filling.proofs.EditLaws.{is-beyond, is-owned, is-passed, which, behind-beyond, behind-owned, behind-passed, behind-nil, at-view, at-next, at-past, at-nil, views-editAt}
 use Rattle.filling.proofs.PlacingLaws.{leaves, followed-editAt, lawful-editAt}
 use Rattle.filling.proofs.FollowLaws.{followed, placed}
@@ -106,7 +108,7 @@ lacks-child t (r ∷ k) l = child-other t r k (l .0) ∙ lacks-child t k (l .1)
 
 -- what holds of the child that is found holds of each with its tag
 fine-all : (n : ℕ) (k : List Rec) → Once k → ((b : List ℕ) → child 67 k ≡ some b → length b ≡ 2 * n)
-    → ((b : List ℕ) → child 68 k ≡ some b → Starts 0 1 n (shapesIn b)) → ((b : List ℕ) → child 68 k ≡ some b → Bytes b) → AllFine n k
+    → ((b : List ℕ) → child 68 k ≡ some b → StartsFrom 0 1 n (shapesIn b)) → ((b : List ℕ) → child 68 k ≡ some b → Bytes b) → AllFine n k
 fine-all n [] o x y z = tt
 fine-all n (r ∷ k) o x y z = (
   record {
@@ -215,22 +217,22 @@ bytes-head a b v k h x =
 
 -- a change that makes bytes of bytes
 abbrev ByteWise : Change → Type 0
-ByteWise f = (j t : ℕ) (b c : List ℕ) → Bytes b → f j t b ≡ some c → Bytes c
+ByteWise f = (k : OwnedChild) (c : List ℕ) → Bytes (k .body) → f k ≡ some c → Bytes c
 
 bytes-body : (f : Field) (w : List ℕ) → Bytes w → ByteWise (newBody f w)
-bytes-body f w y j t b c x e = elim (kind t) [
-  | text h ↦ same _ (sym (body-text f w j t b h) ∙ e) (bytes-replaced (2 * f .a) (2 * f .b) w b y x)
-  | shapes h ↦ same _ (sym (body-shapes f w j t b h) ∙ e) (bytes-packed _)
-  | layout h ↦ absurd (let q = body-layout f w j t b h in let z : _≡_ {A = ℕ} 0 1 = cc in omega arith)
-  | control h ↦ same _ (sym (body-control f w j t b h) ∙ e) (either (eqb j (f .ordinal)))
-  | other h₁ h₂ h₃ h₄ ↦ same _ (sym (body-other f w j t b h₁ h₂ h₃ h₄) ∙ e) x
+bytes-body f w y k c x e = elim (kind (k .tag)) [
+  | text h ↦ same _ (sym (body-text f w (k .before) (k .tag) (k .body) h) ∙ e) (bytes-replaced (2 * f .a) (2 * f .b) w (k .body) y x)
+  | shapes h ↦ same _ (sym (body-shapes f w (k .before) (k .tag) (k .body) h) ∙ e) (bytes-packed _)
+  | layout h ↦ absurd (let q = body-layout f w (k .before) (k .tag) (k .body) h in let z : _≡_ {A = ℕ} 0 1 = cc in omega arith)
+  | control h ↦ same _ (sym (body-control f w (k .before) (k .tag) (k .body) h) ∙ e) (either (eqb (k .before) (f .ordinal)))
+  | other h₁ h₂ h₃ h₄ ↦ same _ (sym (body-other f w (k .before) (k .tag) (k .body) h₁ h₂ h₃ h₄) ∙ e) x
 ]
   where
     same : (d : List ℕ) → _≡_ {A = Option (List ℕ)} (some d) (some c) → Bytes d → Bytes c
     same d q h = let s : d ≡ c = cc in rw (← s) h
 
-    either : (s : Bool) → Bytes (cond s (altered b) b)
-    either true = bytes-altered b x
+    either : (s : Bool) → Bytes (cond s (altered (k .body)) (k .body))
+    either true = bytes-altered (k .body) x
     either false = x
 
 bytes-put : (o : Option (List ℕ)) (r : Rec) (x : List Rec) → ((c : List ℕ) → o ≡ some c → Bytes c) → AllBodies Bytes x → AllBodies Bytes (put o r x)
@@ -243,7 +245,7 @@ bytes-behind n j f [] q a = rw (behind-nil n j f) tt
 bytes-behind n j f (r ∷ rs) q a = elim (which n (r .tag) (r .level)) [
   | is-beyond l e ↦ rw (behind-beyond n j f r rs e) a
   | is-owned l t e ↦ rw (behind-owned n j f r rs e)
-      (bytes-put (f j (r .tag) (r .body)) r _ (λ c z. q j (r .tag) (r .body) c (a .0) z) (bytes-behind n (countControl (r .tag) j) f rs q (a .1)))
+      (bytes-put (f (asChild j r)) r _ (λ c z. q (asChild j r) c (a .0) z) (bytes-behind n (countControl (r .tag) j) f rs q (a .1)))
   | is-passed l e ↦ rw (behind-passed n j f r rs e) (a .0, bytes-behind n j f rs q (a .1))
 ]
 

@@ -1,5 +1,4 @@
--- What a fill changes: the field's text is the value, the count follows, bit 15 is set and the layout is gone; so a template that is
--- handed back as its own sheet was filled with this value already. What it leaves: every other record. Assumes nothing.
+-- What a fill changes: the field's text is the value, and bit 15 is set. What it leaves: every other record. Assumes nothing.
 use mathlib.Core.Path.{_≡_, refl, sym, ap, _∙_}
 use mathlib.Core.Logic.{inl, inr}
 use Prim.Native.Nat.{ℕ, zero, suc, _+_, _*_, _/_, _%_, _≤_, _<_}
@@ -22,7 +21,7 @@ use Rattle.paragraph.specs.Rules.{bytesIn}
 use Rattle.paragraph.specs.declared.view.Side.the-variants as S
 use Rattle.filling.specs.Replacing.{replaced}
 use Rattle.filling.specs.Fields.{Field, fields}
-use Rattle.filling.specs.Editing.{Change, Edit, withBody, put, countControl, editView, editBehind, editHere, editAt, modified}
+use Rattle.filling.specs.Editing.{Change, Edit, withBody, put, countControl, editView, editBehind, editHere, editAt, modified, asChild}
 use Rattle.filling.specs.Placing.{Leaves}
 use Rattle.filling.specs.Search.{Hit}
 use Rattle.filling.specs.Filling.{unitCount, withBit15, altered, filling, filled}
@@ -74,14 +73,6 @@ altered-bit b h n =
     rw (over-here 4 8 (bytesOf 4 x) b (omega arith), little-bytesOf 4 x (drop 8 b) (bit-fits (little 4 (drop 4 b)) s))
     (bit-there (little 4 (drop 4 b)))
 
--- ---- the template as its own sheet
-
--- a text that a fill leaves as it is had the value already
-pub unchanged-text : (f : Field) (w : List ℕ) (v : View) → length w ≡ 2 * unitCount w → Among f (fields v) → f .plain ≡ true
-    → editView (filling f w) v ≡ v → take (unitCount w) (drop (f .a) (units (bytesIn (child 67 (v .own))))) ≡ units w
-unchanged-text f w v e m p q =
-    ap (λ (x : View). take (unitCount w) (drop (f .a) (units (bytesIn (child 67 (x .own)))))) (sym q) ∙ value-there f w v e m p
-
 -- ---- every other record is copied
 
 -- the records behind a header but its owned children at level n
@@ -118,7 +109,7 @@ besides-behind n j f [] = ap (besides n) (behind-nil n j f)
 besides-behind n j f (r ∷ rs) = elim (which n (r .tag) (r .level)) [
   | is-beyond l e ↦ ap (besides n) (behind-beyond n j f r rs e)
   | is-owned l t e ↦
-      ap (besides n) (behind-owned n j f r rs e) ∙ besides-put n (f j (r .tag) (r .body)) r (editBehind n (countControl (r .tag) j) f rs) e
+      ap (besides n) (behind-owned n j f r rs e) ∙ besides-put n (f (asChild j r)) r (editBehind n (countControl (r .tag) j) f rs) e
       ∙ besides-behind n (countControl (r .tag) j) f rs ∙ sym (besides-owned n r rs e)
   | is-passed l e ↦
       ap (besides n) (behind-passed n j f r rs e) ∙ besides-passed n r (editBehind n j f rs) e
@@ -155,7 +146,7 @@ outside-kept (suc i) e (r ∷ rs) = elim (eq-or (r .tag) 66) [
   | inr t ↦ ap (outside (suc i)) (at-past e r rs (suc i) t) ∙ outside-past r (editAt (suc i) e rs) (suc i) t ∙ ap (λ (x : List Rec). r ∷ x) (outside-kept (suc i) e rs) ∙ sym (outside-past r rs (suc i) t)
 ]
 
--- ---- a section that a fill leaves as it is: it had the value, and bit 15
+-- ---- a view that a fill leaves as it is
 
 pub unchanged-view : (n : ℕ) (g : View → View) (vs : List View) (v : View) → modified n g vs ≡ vs → getElem? vs n ≡ some v → g v ≡ v
 unfolding modified
@@ -176,31 +167,3 @@ unchanged-bit f w v e h =
     ap (λ (x : View). getD (controls (x .own)) (f .ordinal) []) (sym e)
     ∙ ap (λ (bs : List (List ℕ)). getD bs (f .ordinal) []) (controls-filled f w 0 (v .own))
     ∙ altered-here (f .ordinal) 0 (f .ordinal) (controls (v .own)) (omega arith) h
-
--- what a section holds that is its own sheet: in the field's paragraph the field has the value, its control header has bit 15, and there
--- is no layout
-pub record Already (f : Field) (w : List ℕ) (v : View) : Type 0 where
-  pub text : take (unitCount w) (drop (f .a) (units (bytesIn (child 67 (v .own))))) ≡ units w
-  pub bit : f .ordinal < length (controls (v .own)) → getD (controls (v .own)) (f .ordinal) [] ≡ altered (getD (controls (v .own)) (f .ordinal) [])
-  pub layout : child 69 (v .own) ≡ none
-
-no-layout : (f : Field) (w : List ℕ) (v : View) → child 69 (editView (filling f w) v .own) ≡ none
-unfolding editView filling
-no-layout f w v = layout-filled f w 0 (v .own)
-
--- a filler that hands back the template is wrong, but where the template was filled so already
-pub template-sheet : (id : ℕ) (w : List ℕ) (rs : List Rec) (h : Hit) → Leaves rs → Done id w rs h → filled h w rs ≡ rs
-    → (v : View) → getElem? (views rs) (h .paragraph) ≡ some v → Already (h .field) w v
-unfolding filled
-template-sheet id w rs h lv d e v q =
-    let m = done-met id w rs h d in
-    let s : m .v ≡ v = (let x = m .at in cc) in
-    let g : Among (h .field) (fields v) = rw s at (m .among) in
-    let u : editView (filling (h .field) w) v ≡ v
-    = unchanged-view (h .paragraph) (editView (filling (h .field) w)) (views rs) v
-    (sym (views-editAt (filling (h .field) w) (takes-filling (h .field) w) (h .paragraph) rs lv) ∙ ap views e) q in
-    record {
-      text = unchanged-text (h .field) w v (d .value .even) g (d .plain) u;
-      bit = unchanged-bit (h .field) w v u;
-      layout = ap (λ (x : View). child 69 (x .own)) (sym u) ∙ no-layout (h .field) w v;
-    }

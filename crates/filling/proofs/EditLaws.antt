@@ -15,7 +15,7 @@ use Rattle.text.proofs.Cases.{lt-or, eq-or}
 use Rattle.paragraph.specs.View.{side, keep, kids, View, view, views}
 use Rattle.paragraph.specs.declared.view.Side.the-variants as S
 use Rattle.paragraph.proofs.ViewLaws.{side-beyond, side-deeper}
-use Rattle.filling.specs.Editing.{Change, Edit, withBody, put, countControl, changed, editView, editBehind, editHere, editAt, modified, TakesLayout, thenBody, thenChange, thenEdit}
+use Rattle.filling.specs.Editing.{Change, Edit, withBody, put, countControl, changed, editView, editBehind, editHere, editAt, modified, TakesLayout, thenBody, thenChange, thenEdit, asChild}
 use Rattle.filling.specs.Placing.{Stops, Leaves}
 
 -- ---- sides
@@ -51,7 +51,7 @@ module _ (n j : ℕ) (f : Change) (r : Rec) (rs : List Rec) where
   behind-beyond e = rw (e, editBehind)
 
   pub behind-owned : side n (r .tag) (r .level) ≡ S.Owned
-      → editBehind n j f (r ∷ rs) ≡ put (f j (r .tag) (r .body)) r (editBehind n (countControl (r .tag) j) f rs)
+      → editBehind n j f (r ∷ rs) ≡ put (f (asChild j r)) r (editBehind n (countControl (r .tag) j) f rs)
   unfolding editBehind
   behind-owned e = rw (e, editBehind)
 
@@ -90,7 +90,7 @@ kids-above m n j f (r ∷ rs) h = elim (which n (r .tag) (r .level)) [
   | is-beyond l e ↦ rw (behind-beyond n j f r rs e)
   | is-owned l t e ↦
       let d : side m (r .tag) (r .level) ≡ S.Passed = side-deeper m (r .tag) (r .level) (omega arith) in
-      rw (behind-owned n j f r rs e, d, kids-put-passed m r (editBehind n (countControl (r .tag) j) f rs) (f j (r .tag) (r .body)) d) (kids-above m n (countControl (r .tag) j) f rs h)
+      rw (behind-owned n j f r rs e, d, kids-put-passed m r (editBehind n (countControl (r .tag) j) f rs) (f (asChild j r)) d) (kids-above m n (countControl (r .tag) j) f rs h)
   | is-passed l e ↦ rw (behind-passed n j f r rs e, kids-above m n j f rs h)
 ]
 
@@ -99,7 +99,7 @@ unfolding kids keep editBehind changed
 kids-same n j f [] = refl
 kids-same n j f (r ∷ rs) = elim (which n (r .tag) (r .level)) [
   | is-beyond l e ↦ rw (behind-beyond n j f r rs e, e)
-  | is-owned l t e ↦ rw (behind-owned n j f r rs e, kids-put-owned n r (editBehind n (countControl (r .tag) j) f rs) (f j (r .tag) (r .body)) e, e, kids-same n (countControl (r .tag) j) f rs)
+  | is-owned l t e ↦ rw (behind-owned n j f r rs e, kids-put-owned n r (editBehind n (countControl (r .tag) j) f rs) (f (asChild j r)) e, e, kids-same n (countControl (r .tag) j) f rs)
   | is-passed l e ↦ rw (behind-passed n j f r rs e, e) (kids-same n j f rs)
 ]
 
@@ -111,8 +111,8 @@ kids-below m n j f (r ∷ rs) h q v = elim (which n (r .tag) (r .level)) [
   | is-owned l t e ↦
       let d : side m (r .tag) (r .level) ≡ S.Beyond = side-beyond m (r .tag) (r .level) (omega arith) in
       let ih = kids-below m n (countControl (r .tag) j) f rs h q (v .1) in
-      rw (behind-owned n j f r rs e, d) (kids-put-beyond m r (editBehind n (countControl (r .tag) j) f rs) (f j (r .tag) (r .body)) d
-      (λ o. ih ∙ kids-stop m (r .level) rs (omega arith) (v .0 (q j (r .tag) (r .body) o))))
+      rw (behind-owned n j f r rs e, d) (kids-put-beyond m r (editBehind n (countControl (r .tag) j) f rs) (f (asChild j r)) d
+      (λ o. ih ∙ kids-stop m (r .level) rs (omega arith) (v .0 (q (asChild j r) o))))
   | is-passed l e ↦ rw (behind-passed n j f r rs e, kids-below m n j f rs h q (v .1))
 ]
 
@@ -128,7 +128,7 @@ unfolding views editBehind view
 views-behind n j f [] q v = refl
 views-behind n j f (r ∷ rs) q v = elim (which n (r .tag) (r .level)) [
   | is-beyond l e ↦ rw (behind-beyond n j f r rs e)
-  | is-owned l t e ↦ rw (behind-owned n j f r rs e, views-put (f j (r .tag) (r .body)) r (editBehind n (countControl (r .tag) j) f rs) t, ne-eqb (r .tag) 66 (λ z. omega arith)) (views-behind n (countControl (r .tag) j) f rs q (v .1))
+  | is-owned l t e ↦ rw (behind-owned n j f r rs e, views-put (f (asChild j r)) r (editBehind n (countControl (r .tag) j) f rs) t, ne-eqb (r .tag) 66 (λ z. omega arith)) (views-behind n (countControl (r .tag) j) f rs q (v .1))
   | is-passed l e ↦ rw (behind-passed n j f r rs e, kids-below (suc (r .level)) n j f rs (omega arith) q (v .1), views-behind n j f rs q (v .1))
 ]
 
@@ -222,8 +222,8 @@ behind-behind n m f g h q j i (r ∷ rs) v = elim (which n (r .tag) (r .level)) 
       cc (
         behind-beyond m i g r rs d,
         behind-owned n j f r rs e,
-        behind-put-beyond m i g r (editBehind n (countControl (r .tag) j) f rs) (f j (r .tag) (r .body)) d
-            (λ o. sym ih ∙ ap (editBehind n (countControl (r .tag) j) f) (behind-stop m (r .level) i g rs (omega arith) (v .0 (q j (r .tag) (r .body) o)))),
+        behind-put-beyond m i g r (editBehind n (countControl (r .tag) j) f rs) (f (asChild j r)) d
+            (λ o. sym ih ∙ ap (editBehind n (countControl (r .tag) j) f) (behind-stop m (r .level) i g rs (omega arith) (v .0 (q (asChild j r) o)))),
       )
   | is-passed l e ↦ elim (which m (r .tag) (r .level)) [
     | is-beyond l′ e′ ↦ cc (behind-beyond m i g r rs e′, behind-passed n j f r rs e, behind-beyond m i g r (editBehind n j f rs) e′)
@@ -232,7 +232,7 @@ behind-behind n m f g h q j i (r ∷ rs) v = elim (which n (r .tag) (r .level)) 
           behind-owned m i g r rs e′,
           behind-passed n j f r rs e,
           behind-owned m i g r (editBehind n j f rs) e′,
-          behind-put-passed n j f r (editBehind m (countControl (r .tag) i) g rs) (g i (r .tag) (r .body)) e,
+          behind-put-passed n j f r (editBehind m (countControl (r .tag) i) g rs) (g (asChild i r)) e,
           behind-behind n m f g h q j (countControl (r .tag) i) rs (v .1),
         )
     | is-passed l′ e′ ↦
@@ -286,7 +286,7 @@ module _ (e : Edit) (n : ℕ) (f : Change) (q : TakesLayout f) where
         at-past e r rs k h,
         behind-owned n j f r (editAt k e rs) s,
         behind-owned n j f r rs s,
-        at-put k e (f j (r .tag) (r .body)) r (editBehind n (countControl (r .tag) j) f rs) h,
+        at-put k e (f (asChild j r)) r (editBehind n (countControl (r .tag) j) f rs) h,
         behind-at (countControl (r .tag) j) k rs (v .1),
       )
       | is-passed l s ↦ cc (at-past e r rs k h, behind-passed n j f r (editAt k e rs) s, behind-passed n j f r rs s, at-past e r (editBehind n j f rs) k h, behind-at j k rs (v .1))
@@ -362,10 +362,10 @@ put-body (some c) b r x = refl
 
 behind-then-put : (n j : ℕ) (f g : Change) (r : Rec) (x : List Rec) (o : Option (List ℕ)) → side n (r .tag) (r .level) ≡ S.Owned
     → (o ≡ none → r .tag ≡ 69)
-    → editBehind n j g (put o r x) ≡ put (thenBody g j (r .tag) o) r (editBehind n (countControl (r .tag) j) g x)
+    → editBehind n j g (put o r x) ≡ put (thenBody g (asChild j r) o) r (editBehind n (countControl (r .tag) j) g x)
 unfolding put thenBody withBody
 behind-then-put n j f g r x none s h = rw (bump-69 j (r .tag) (h refl))
-behind-then-put n j f g r x (some b) s h = behind-owned n j g (withBody b r) x s ∙ put-body (g j (r .tag) b) b r (editBehind n (countControl (r .tag) j) g x)
+behind-then-put n j f g r x (some b) s h = behind-owned n j g (withBody b r) x s ∙ put-body (g (asChild j (withBody b r))) b r (editBehind n (countControl (r .tag) j) g x)
 
 behind-then : (n j : ℕ) (f g : Change) (rs : List Rec) → TakesLayout f → editBehind n j g (editBehind n j f rs) ≡ editBehind n j (thenChange f g) rs
 unfolding thenChange
@@ -374,7 +374,7 @@ behind-then n j f g (r ∷ rs) q = elim (which n (r .tag) (r .level)) [
   | is-beyond l s ↦ cc (behind-beyond n j f r rs s, behind-beyond n j g r rs s, behind-beyond n j (thenChange f g) r rs s)
   | is-owned l t s ↦ cc (
     behind-owned n j f r rs s,
-    behind-then-put n j f g r (editBehind n (countControl (r .tag) j) f rs) (f j (r .tag) (r .body)) s (q j (r .tag) (r .body)),
+    behind-then-put n j f g r (editBehind n (countControl (r .tag) j) f rs) (f (asChild j r)) s (q (asChild j r)),
     behind-owned n j (thenChange f g) r rs s,
     behind-then n (countControl (r .tag) j) f g rs q,
   )
@@ -409,7 +409,7 @@ module _ (e d : Edit) (q : TakesLayout (e .child)) where
 -- two changes say the same of a list of children, before which j control headers stand
 abbrev pub Agree : ℕ → Change → Change → List Rec → Type 0
 Agree j f g [] = Unit {0}
-Agree j f g (r ∷ k) = (f j (r .tag) (r .body) ≡ g j (r .tag) (r .body)) × Agree (countControl (r .tag) j) f g k
+Agree j f g (r ∷ k) = (f (asChild j r) ≡ g (asChild j r)) × Agree (countControl (r .tag) j) f g k
 
 behind-cong : (n j : ℕ) (f g : Change) (rs : List Rec) → Agree j f g (kids n rs) → editBehind n j f rs ≡ editBehind n j g rs
 unfolding kids keep

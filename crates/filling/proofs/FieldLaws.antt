@@ -11,7 +11,8 @@ use lib.Dec.{ltb, leb, eqb}
 use lib.ListN.{length, length-append}
 use lib.Seq.{append-snoc}
 use borrow.Author.Tests.{lt-ltb, le-ltb, le-leb, lt-leb, eq-eqb, ne-eqb, eqb-true}
-use Rattle.text.specs.Walk.{among, classOf, control, what, width, Token, walk, tokens, isExtended, AllOrdinary}
+use Rattle.text.specs.Asked.{among, classOf, control, what, width}
+use Rattle.text.specs.Walk.{Token, walk, tokens, isExtended, AllOrdinary}
 use Rattle.text.specs.declared.Class.the-variants.{Extended}
 use Rattle.text.specs.declared.Control.{Control}
 use Rattle.text.specs.declared.Standing.{Standing}

@@ -17,35 +17,35 @@ use Rattle.text.proofs.Cases.{eq-or}
 use Rattle.paragraph.specs.View.{View, child, views}
 use Rattle.paragraph.proofs.BodyLaws.{child-here, child-other}
 use Rattle.filling.specs.Replacing.{replaced}
-use Rattle.filling.specs.Shapes.{Entry, startAt, inside, anyInside, moved, shapesIn, packed, shapesAfter, Starts}
+use Rattle.filling.specs.Shapes.{Entry, startAt, inside, anyInside, moved, shapesIn, packed, shapesAfter}
 use Rattle.filling.specs.Fields.{Field}
-use Rattle.filling.specs.Editing.{Change, withBody, put, countControl, changed, editView, editAt, TakesLayout, thenBody, thenChange, thenEdit}
+use Rattle.filling.specs.Editing.{Change, withBody, put, countControl, changed, editView, editAt, TakesLayout, thenBody, thenChange, thenEdit, asChild, OwnedChild}
 use Rattle.filling.specs.Filling.{unitCount, recounted, newHead, altered, shapesOf, newBody, filling}
 use Rattle.filling.proofs.ReplacingLaws.{replaced-comm}
 use Rattle.filling.proofs.PackingLaws.{over-length, over-comm, over-again, over-drop, over-before, little-same, Small, shapes-packed, shapes-small}
-use Rattle.filling.proofs.ShapeLaws.{after-starts, after-comm}
+use Rattle.filling.proofs.ShapeLaws.{StartsFrom, after-starts, after-comm}
 use Rattle.filling.proofs.EditLaws.{Agree, AgreeAt, at-after, at-cong}
 
 -- ---- the new body of a child, by its tag
 
 module _ (f : Field) (w : List ℕ) (j t : ℕ) (b : List ℕ) where
-  pub body-text : t ≡ 67 → newBody f w j t b ≡ some (replaced (2 * f .a) (2 * f .b) w b)
+  pub body-text : t ≡ 67 → newBody f w (record { before = j; tag = t; body = b }) ≡ some (replaced (2 * f .a) (2 * f .b) w b)
   unfolding newBody
   body-text e = rw e
 
-  pub body-shapes : t ≡ 68 → newBody f w j t b ≡ some (packed (shapesAfter (f .a) (f .b) (unitCount w) (shapesIn b)))
+  pub body-shapes : t ≡ 68 → newBody f w (record { before = j; tag = t; body = b }) ≡ some (packed (shapesAfter (f .a) (f .b) (unitCount w) (shapesIn b)))
   unfolding newBody
   body-shapes e = rw e
 
-  pub body-layout : t ≡ 69 → newBody f w j t b ≡ none
+  pub body-layout : t ≡ 69 → newBody f w (record { before = j; tag = t; body = b }) ≡ none
   unfolding newBody
   body-layout e = rw e
 
-  pub body-control : t ≡ 71 → newBody f w j t b ≡ some (cond (eqb j (f .ordinal)) (altered b) b)
+  pub body-control : t ≡ 71 → newBody f w (record { before = j; tag = t; body = b }) ≡ some (cond (eqb j (f .ordinal)) (altered b) b)
   unfolding newBody
   body-control e = rw e
 
-  pub body-other : (t ≡ 67 → ⊥) → (t ≡ 68 → ⊥) → (t ≡ 69 → ⊥) → (t ≡ 71 → ⊥) → newBody f w j t b ≡ some b
+  pub body-other : (t ≡ 67 → ⊥) → (t ≡ 68 → ⊥) → (t ≡ 69 → ⊥) → (t ≡ 71 → ⊥) → newBody f w (record { before = j; tag = t; body = b }) ≡ some b
   unfolding newBody
   body-other e₁ e₂ e₃ e₄ = rw (ne-eqb t 67 e₁, ne-eqb t 68 e₂, ne-eqb t 69 e₃, ne-eqb t 71 e₄)
 
@@ -71,15 +71,15 @@ kind t = elim (eq-or t 67) [
 
 -- a fill takes away layout records only
 pub takes : (f : Field) (w : List ℕ) → TakesLayout (newBody f w)
-takes f w j t b q = elim (kind t) [
-  | text e ↦ no-some _ (sym (body-text f w j t b e) ∙ q)
-  | shapes e ↦ no-some _ (sym (body-shapes f w j t b e) ∙ q)
+takes f w c q = elim (kind (c .tag)) [
+  | text e ↦ no-some _ (sym (body-text f w (c .before) (c .tag) (c .body) e) ∙ q)
+  | shapes e ↦ no-some _ (sym (body-shapes f w (c .before) (c .tag) (c .body) e) ∙ q)
   | layout e ↦ e
-  | control e ↦ no-some _ (sym (body-control f w j t b e) ∙ q)
-  | other e₁ e₂ e₃ e₄ ↦ no-some _ (sym (body-other f w j t b e₁ e₂ e₃ e₄) ∙ q)
+  | control e ↦ no-some _ (sym (body-control f w (c .before) (c .tag) (c .body) e) ∙ q)
+  | other e₁ e₂ e₃ e₄ ↦ no-some _ (sym (body-other f w (c .before) (c .tag) (c .body) e₁ e₂ e₃ e₄) ∙ q)
 ]
   where
-    no-some : (x : List ℕ) → _≡_ {A = Option (List ℕ)} (some x) none → t ≡ 69
+    no-some : (x : List ℕ) → _≡_ {A = Option (List ℕ)} (some x) none → c .tag ≡ 69
     no-some x e = cc
 
 pub takes-filling : (f : Field) (w : List ℕ) → TakesLayout (filling f w .child)
@@ -164,22 +164,22 @@ ids-after a b v (e ∷ l) i =
     either true x y p q = p
     either false x y p q = q
 
-small : (low high n : ℕ) (l : List Entry) → Starts low high n l → Ids l → high ≤ 4294967296 → n ≤ 4294967296 → Small l
+small : (low high n : ℕ) (l : List Entry) → StartsFrom low high n l → Ids l → high ≤ 4294967296 → n ≤ 4294967296 → Small l
 small low high n [] s i h k = tt
 small low high n (e ∷ l) s i h k = (omega (arith, s .1), i .0, small (e .start + 1) n n l (s .2) (i .1) k k)
 
 module _ (a b v n : ℕ) (z : 0 < a) (h : a ≤ b) (k : b < n) (m : n + v < 4294967296) where
-  pub small-after : (l : List Entry) → Starts 0 1 n l → Small l → Small (shapesAfter a b v l)
+  pub small-after : (l : List Entry) → StartsFrom 0 1 n l → Small l → Small (shapesAfter a b v l)
   small-after l s i = small 0 1 (n + v - (b - a)) (shapesAfter a b v l) (after-starts a b v n z h k l s) (ids-after a b v l (ids l i)) (omega arith) (omega arith)
 
-  pub read-after : (l : List Entry) → Starts 0 1 n l → Small l → shapesIn (packed (shapesAfter a b v l)) ≡ shapesAfter a b v l
+  pub read-after : (l : List Entry) → StartsFrom 0 1 n l → Small l → shapesIn (packed (shapesAfter a b v l)) ≡ shapesAfter a b v l
   read-after l s i = shapes-packed (shapesAfter a b v l) (small-after l s i)
 
 -- ---- what is asked of a paragraph's children where its count is n: the text has n units, the starts keep their rule
 
 pub record Fine (n : ℕ) (r : Rec) : Type 0 where
   pub text : r .tag ≡ 67 → length (r .body) ≡ 2 * n
-  pub starts : r .tag ≡ 68 → Starts 0 1 n (shapesIn (r .body))
+  pub starts : r .tag ≡ 68 → StartsFrom 0 1 n (shapesIn (r .body))
   pub bytes : r .tag ≡ 68 → Bytes (r .body)
 
 abbrev pub AllFine : ℕ → List Rec → Type 0
@@ -201,26 +201,26 @@ mapped g none = none
 mapped g (some b) = some (g b)
 
 module _ (t : ℕ) (f : Change) where
-  pub child-changed : (g : List ℕ → List ℕ) → ((j s : ℕ) (b : List ℕ) → s ≡ t → f j s b ≡ some (g b)) → (j : ℕ) (k : List Rec)
+  pub child-changed : (g : List ℕ → List ℕ) → ((c : OwnedChild) → c .tag ≡ t → f c ≡ some (g (c .body))) → (j : ℕ) (k : List Rec)
       → child t (changed j f k) ≡ mapped g (child t k)
   unfolding changed put
   child-changed g e j [] = unfold child in refl
   child-changed g e j (r ∷ k) = elim (eq-or (r .tag) t) [
-    | inl h ↦ rw (e j (r .tag) (r .body) h, child-here t r k h) (child-new t r (g (r .body)) _ h)
-    | inr h ↦ child-put t (f j (r .tag) (r .body)) r (changed (countControl (r .tag) j) f k) h
+    | inl h ↦ rw (e (asChild j r) h, child-here t r k h) (child-new t r (g (r .body)) _ h)
+    | inr h ↦ child-put t (f (asChild j r)) r (changed (countControl (r .tag) j) f k) h
         ∙ child-changed g e (countControl (r .tag) j) k ∙ ap (mapped g) (sym (child-other t r k h))
   ]
 
-  pub child-gone : ((j s : ℕ) (b : List ℕ) → s ≡ t → f j s b ≡ none) → (j : ℕ) (k : List Rec) → child t (changed j f k) ≡ none
+  pub child-gone : ((c : OwnedChild) → c .tag ≡ t → f c ≡ none) → (j : ℕ) (k : List Rec) → child t (changed j f k) ≡ none
   unfolding changed put
   child-gone e j [] = unfold child in refl
   child-gone e j (r ∷ k) = elim (eq-or (r .tag) t) [
-    | inl h ↦ rw (e j (r .tag) (r .body) h) (child-gone e (countControl (r .tag) j) k)
-    | inr h ↦ child-put t (f j (r .tag) (r .body)) r (changed (countControl (r .tag) j) f k) h ∙ child-gone e (countControl (r .tag) j) k
+    | inl h ↦ rw (e (asChild j r) h) (child-gone e (countControl (r .tag) j) k)
+    | inr h ↦ child-put t (f (asChild j r)) r (changed (countControl (r .tag) j) f k) h ∙ child-gone e (countControl (r .tag) j) k
   ]
 
 -- what holds of each child holds of the one that is found
-pub fine-child : (n : ℕ) (k : List Rec) (b : List ℕ) → AllFine n k → child 68 k ≡ some b → Starts 0 1 n (shapesIn b) × Bytes b
+pub fine-child : (n : ℕ) (k : List Rec) (b : List ℕ) → AllFine n k → child 68 k ≡ some b → StartsFrom 0 1 n (shapesIn b) × Bytes b
 fine-child n [] b a e = unfold child in absurd (let z : _≡_ {A = ℕ} 0 1 = cc in omega arith)
 fine-child n (r ∷ k) b a e = elim (eq-or (r .tag) 68) [
   | inl h ↦
@@ -240,18 +240,18 @@ fine-text n (r ∷ k) b a e = elim (eq-or (r .tag) 67) [
 
 module _ (f : Field) (w : List ℕ) where
   pub text-filled : (j : ℕ) (k : List Rec) → child 67 (changed j (newBody f w) k) ≡ mapped (replaced (2 * f .a) (2 * f .b) w) (child 67 k)
-  text-filled = child-changed 67 (newBody f w) (replaced (2 * f .a) (2 * f .b) w) (λ j s b e. body-text f w j s b e)
+  text-filled = child-changed 67 (newBody f w) (replaced (2 * f .a) (2 * f .b) w) (λ c e. body-text f w (c .before) (c .tag) (c .body) e)
 
   pub shapes-filled : (j : ℕ) (k : List Rec)
       → child 68 (changed j (newBody f w) k) ≡ mapped (λ b. packed (shapesAfter (f .a) (f .b) (unitCount w) (shapesIn b))) (child 68 k)
-  shapes-filled = child-changed 68 (newBody f w) (λ b. packed (shapesAfter (f .a) (f .b) (unitCount w) (shapesIn b))) (λ j s b e. body-shapes f w j s b e)
+  shapes-filled = child-changed 68 (newBody f w) (λ b. packed (shapesAfter (f .a) (f .b) (unitCount w) (shapesIn b))) (λ c e. body-shapes f w (c .before) (c .tag) (c .body) e)
 
   pub layout-filled : (j : ℕ) (k : List Rec) → child 69 (changed j (newBody f w) k) ≡ none
-  layout-filled = child-gone 69 (newBody f w) (λ j s b e. body-layout f w j s b e)
+  layout-filled = child-gone 69 (newBody f w) (λ c e. body-layout f w (c .before) (c .tag) (c .body) e)
 
   pub marks-filled : (j : ℕ) (k : List Rec) → child 70 (changed j (newBody f w) k) ≡ mapped (λ b. b) (child 70 k)
   marks-filled = child-changed 70 (newBody f w) (λ b. b)
-      (λ j s b e. body-other f w j s b (λ z. omega arith) (λ z. omega arith) (λ z. omega arith) (λ z. omega arith))
+      (λ c e. body-other f w (c .before) (c .tag) (c .body) (λ z. omega arith) (λ z. omega arith) (λ z. omega arith) (λ z. omega arith))
 
 -- the entries after a fill, as they are read from the children
 pub entries-filled : (f : Field) (w : List ℕ) (n : ℕ) (j : ℕ) (k : List Rec) → 0 < f .a → f .a ≤ f .b → f .b < n → n + unitCount w < 4294967296
@@ -299,12 +299,12 @@ module _ (f g : Field) (w u : List ℕ) (n : ℕ) (p : Pair f g w u n) where
       let e₂ : 2 * (g .b + unitCount w - (f .b - f .a)) ≡ 2 * g .b + length w + 2 * f .a - 2 * f .b = omega (arith, p .even, p .first, p .apart, p .second) in
       rw (e₁, e₂) (replaced-comm (2 * f .a) (2 * f .b) (2 * g .a) (2 * g .b) w u b (omega (arith, p .first)) (omega (arith, p .apart)) (omega (arith, p .second)) (omega (arith, p .within)))
 
-  starts-comm : (l : List Entry) → Starts 0 1 n l
+  starts-comm : (l : List Entry) → StartsFrom 0 1 n l
       → shapesAfter (g .a + unitCount w - (f .b - f .a)) (g .b + unitCount w - (f .b - f .a)) (unitCount u) (shapesAfter (f .a) (f .b) (unitCount w) l)
       ≡ shapesAfter (f .a) (f .b) (unitCount w) (shapesAfter (g .a) (g .b) (unitCount u) l)
   starts-comm l s = after-comm (f .a) (f .b) (unitCount w) (g .a) (g .b) (unitCount u) n l (p .positive) (p .first) (p .apart) (p .second) (p .within) s
 
-  shapes-comm : (b : List ℕ) → Starts 0 1 n (shapesIn b) → Bytes b
+  shapes-comm : (b : List ℕ) → StartsFrom 0 1 n (shapesIn b) → Bytes b
       → packed (shapesAfter (g .a + unitCount w - (f .b - f .a)) (g .b + unitCount w - (f .b - f .a)) (unitCount u) (shapesIn (packed (shapesAfter (f .a) (f .b) (unitCount w) (shapesIn b)))))
       ≡ packed (shapesAfter (f .a) (f .b) (unitCount w) (shapesIn (packed (shapesAfter (g .a) (g .b) (unitCount u) (shapesIn b)))))
   shapes-comm b s i =
@@ -315,7 +315,7 @@ module _ (f g : Field) (w u : List ℕ) (n : ℕ) (p : Pair f g w u n) where
       )
 
   child-comm : (j : ℕ) (r : Rec) → Fine n r
-      → thenChange (newBody f w) (newBody (pushed f (unitCount w) g) u) j (r .tag) (r .body) ≡ thenChange (newBody g u) (newBody f w) j (r .tag) (r .body)
+      → thenChange (newBody f w) (newBody (pushed f (unitCount w) g) u) (asChild j r) ≡ thenChange (newBody g u) (newBody f w) (asChild j r)
   unfolding thenChange thenBody pushed
   child-comm j r z = elim (kind (r .tag)) [
     | text e ↦ rw (
@@ -369,11 +369,11 @@ pub good : (v : View) → Ready v → Good (countOf v) v
 unfolding span
 good v a = record { long = omega (arith, a .long); word = little-small 4 (v .head) (a .bytes); count = refl; fine = a .fine }
 
-starts-of : (n : ℕ) (v : View) → Good n v → Starts 0 1 n (shapesOf (child 68 (v .own)))
+starts-of : (n : ℕ) (v : View) → Good n v → StartsFrom 0 1 n (shapesOf (child 68 (v .own)))
 unfolding shapesOf
 starts-of n v q = go (child 68 (v .own)) refl
   where
-    go : (o : Option (List ℕ)) → child 68 (v .own) ≡ o → Starts 0 1 n (shapesOf o)
+    go : (o : Option (List ℕ)) → child 68 (v .own) ≡ o → StartsFrom 0 1 n (shapesOf o)
     go none e = tt
     go (some b) e = fine-child n (v .own) b (q .fine) e .0
 

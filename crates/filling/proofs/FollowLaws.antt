@@ -5,51 +5,25 @@ use Prim.Native.Nat.{ℕ, zero, suc, _+_, _≤_, _<_}
 use native.Mathlib.Omega.{arith}
 use mathlib.Core.Bool.{Bool, true, false}
 use mathlib.Core.List.{List, [], _∷_}
-use lib.Dec.{leb}
 use lib.ListN.{length}
-use borrow.Author.Tests.{le-leb, eq-eqb, ne-eqb, eqb-true, leb-true}
 use Rattle.records.specs.Records.{Rec, Lawful}
+use Rattle.records.specs.Parents.{Lacks, parentOf}
+use Rattle.records.proofs.ParentLaws.{parent-skip, parent-here}
 use Rattle.text.proofs.Cases.{lt-or, eq-or}
 use Rattle.paragraph.specs.View.{kids}
 use Rattle.paragraph.proofs.ViewLaws.{side-beyond, side-owned}
 use Rattle.paragraph.proofs.BodyLaws.{kids-beyond, kids-owned, kids-passed}
-use Rattle.section.specs.Parents.{parentOf, leaf, header, parentIs}
-use Rattle.section.proofs.SeatLaws.{parent-skip, parent-here}
-use Rattle.acceptance.specs.Section.{Twin, here, further, Placed, AllPlaced}
-use Rattle.acceptance.proofs.ChainLaws.{both-true}
-use Rattle.acceptance.proofs.SiblingLaws.{capOf, Stepped, same-level, twin-short}
-use Rattle.filling.specs.Placing.{Stops, Lacks, Once, Free, Rule, Each, Followed}
+use Rattle.section.specs.Parents.{leaf, header, parentIs}
+use Rattle.acceptance.specs.Section.{AllPlaced}
+use Rattle.acceptance.proofs.PlaceLaws.{never, leaf-yes, leaf-is, header-is, header-no, header-not, Sibling, beside, past, PlacedBy, AllPlacedBy, all-by-parent}
+use Rattle.acceptance.proofs.SiblingLaws.{capOf, Stepped, same-level, sibling-short}
+use Rattle.filling.specs.Placing.{Stops, Once, Free, Rule, Each, Followed}
 use Rattle.filling.proofs.EditLaws.{is-beyond, is-owned, is-passed, which}
-
--- ---- tags
-
-never : {b : Bool} → b ≡ true → b ≡ false → ⊥
-never h e = let z : _≡_ {A = ℕ} 0 1 = cc in omega arith
-
-leaf-yes : (t : ℕ) → 67 ≤ t → t ≤ 70 → leaf t ≡ true
-unfolding leaf
-leaf-yes t h k = rw (le-leb 67 t h, le-leb t 70 k)
-
-leaf-is : (t : ℕ) → leaf t ≡ true → (67 ≤ t) × (t ≤ 70)
-unfolding leaf
-leaf-is t e = let p = both-true (leb 67 t) (leb t 70) e in (leb-true 67 t (p .0), leb-true t 70 (p .1))
-
-header-yes : (t : ℕ) → header t ≡ true → t ≡ 66
-unfolding header
-header-yes t e = eqb-true t 66 e
-
-header-no : (t : ℕ) → (t ≡ 66 → ⊥) → header t ≡ false
-unfolding header
-header-no t h = ne-eqb t 66 h
-
-header-not : (t : ℕ) → header t ≡ false → t ≡ 66 → ⊥
-unfolding header
-header-not t e h = never (eq-eqb t 66 h) e
 
 -- ---- from what stands before to what follows
 
 -- a tag that stood before does not stand again
-lacks-from : (n t : ℕ) (e rs : List Rec) → leaf t ≡ true → Twin t (parentOf n e) e → AllPlaced e rs → Lacks t (kids n rs)
+lacks-from : (n t : ℕ) (e rs : List Rec) → leaf t ≡ true → Sibling t (parentOf n e) e → AllPlacedBy e rs → Lacks t (kids n rs)
 lacks-from n t e [] l w p = unfold kids in tt
 lacks-from n t e (r ∷ rs) l w p = elim (which n (r .tag) (r .level)) [
   | is-beyond h q ↦ rw (kids-beyond n r rs q) tt
@@ -57,13 +31,13 @@ lacks-from n t e (r ∷ rs) l w p = elim (which n (r .tag) (r .level)) [
   | is-passed h q ↦ rw (kids-passed n r rs q) (lacks-from n t (r ∷ e) rs l (later h) (p .1))
 ]
   where
-    later : n ≤ r .level → Twin t (parentOf n (r ∷ e)) (r ∷ e)
-    later h = subst (λ (up : List Rec). Twin t up (r ∷ e)) (sym (parent-skip n r e h)) (further w)
+    later : n ≤ r .level → Sibling t (parentOf n (r ∷ e)) (r ∷ e)
+    later h = subst (λ (up : List Rec). Sibling t up (r ∷ e)) (sym (parent-skip n r e h)) (past w)
 
     again : r .level ≡ n → r .tag ≡ t → ⊥
     again h z = p .0 .single (rw z l) (rw (h, z) w)
 
-free-from : (n : ℕ) (e rs : List Rec) → parentIs header (parentOf n e) ≡ false → AllPlaced e rs → Free (kids n rs)
+free-from : (n : ℕ) (e rs : List Rec) → parentIs header (parentOf n e) ≡ false → AllPlacedBy e rs → Free (kids n rs)
 free-from n e [] h p = unfold kids in tt
 free-from n e (r ∷ rs) h p = elim (which n (r .tag) (r .level)) [
   | is-beyond l q ↦ rw (kids-beyond n r rs q) tt
@@ -80,7 +54,7 @@ free-from n e (r ∷ rs) h p = elim (which n (r .tag) (r .level)) [
       | inr g ↦ absurd (never (p .0 .below-header (leaf-yes (r .tag) u g)) (ap (λ (k : ℕ). parentIs header (parentOf k e)) l ∙ h))
     ]
 
-once-from : (n : ℕ) (e rs : List Rec) → AllPlaced e rs → Once (kids n rs)
+once-from : (n : ℕ) (e rs : List Rec) → AllPlacedBy e rs → Once (kids n rs)
 once-from n e [] p = unfold kids in tt
 once-from n e (r ∷ rs) p = elim (which n (r .tag) (r .level)) [
   | is-beyond l q ↦ rw (kids-beyond n r rs q) tt
@@ -89,19 +63,19 @@ once-from n e (r ∷ rs) p = elim (which n (r .tag) (r .level)) [
   | is-passed l q ↦ rw (kids-passed n r rs q) (once-from n (r ∷ e) rs (p .1))
 ]
   where
-    itself : r .level ≡ n → Twin (r .tag) (parentOf n (r ∷ e)) (r ∷ e)
+    itself : r .level ≡ n → Sibling (r .tag) (parentOf n (r ∷ e)) (r ∷ e)
     itself l =
-        subst (λ (up : List Rec). Twin (r .tag) up (r ∷ e)) (sym (parent-skip n r e (omega arith)))
-        (here refl (ap (λ (k : ℕ). parentOf k e) l))
+        subst (λ (up : List Rec). Sibling (r .tag) up (r ∷ e)) (sym (parent-skip n r e (omega arith)))
+        (beside refl (ap (λ (k : ℕ). parentOf k e) l))
 
-stops-from : (r : Rec) (e rs : List Rec) → leaf (r .tag) ≡ true → AllPlaced (r ∷ e) rs → Stops (r .level) rs
+stops-from : (r : Rec) (e rs : List Rec) → leaf (r .tag) ≡ true → AllPlacedBy (r ∷ e) rs → Stops (r .level) rs
 stops-from r e [] h p = tt
 stops-from r e (q ∷ rs) h p = elim (lt-or (r .level) (q .level)) [
   | inl l ↦ absurd (never (ap (parentIs leaf) (parent-here (q .level) r e l) ∙ h) (p .0 .no-leaf-above))
   | inr l ↦ l
 ]
 
-each-from : (e rs : List Rec) → AllPlaced e rs → Each rs
+each-from : (e rs : List Rec) → AllPlacedBy e rs → Each rs
 each-from e [] p = tt
 each-from e (r ∷ rs) p = (
   record {
@@ -115,7 +89,7 @@ each-from e (r ∷ rs) p = (
 
 pub followed : (rs : List Rec) → AllPlaced [] rs → Followed rs
 unfolding parentOf
-followed rs p = record { roots = free-from 0 [] rs refl p; each = each-from [] rs p }
+followed rs k = let p = all-by-parent [] rs .0 k in record { roots = free-from 0 [] rs refl p; each = each-from [] rs p }
 
 -- ---- from what follows to what stands before
 
@@ -139,7 +113,7 @@ stops-under n (r ∷ rs) h = omega arith
 record Ahead (n : ℕ) (e rs : List Rec) : Type 0 where
   free : parentIs header (parentOf n e) ≡ false → Free (kids n rs)
   once : parentIs header (parentOf n e) ≡ true → Once (kids n rs)
-  lacks : (t : ℕ) → 67 ≤ t → t ≤ 70 → Twin t (parentOf n e) e → Lacks t (kids n rs)
+  lacks : (t : ℕ) → 67 ≤ t → t ≤ 70 → Sibling t (parentOf n e) e → Lacks t (kids n rs)
   bare : parentIs leaf (parentOf n e) ≡ true → Under n rs
 
 -- where no child is still to come
@@ -186,21 +160,21 @@ ahead-up n e r rs st h a =
     record {
       free = λ q. free-tail n r rs h (a .free (sym (ap (parentIs header) (parent-skip n r e h)) ∙ q));
       once = λ q. once-tail n r rs h (a .once (sym (ap (parentIs header) (parent-skip n r e h)) ∙ q));
-      lacks = λ t p k w. lacks t p k (subst (λ (up : List Rec). Twin t up (r ∷ e)) (parent-skip n r e h) w);
+      lacks = λ t p k w. lacks t p k (subst (λ (up : List Rec). Sibling t up (r ∷ e)) (parent-skip n r e h) w);
       bare = λ q. absurd (let u = a .bare (sym (ap (parentIs leaf) (parent-skip n r e h)) ∙ q) in omega (arith, u));
     }
   where
-    lacks : (t : ℕ) → 67 ≤ t → t ≤ 70 → Twin t (parentOf n e) (r ∷ e) → Lacks t (kids n rs)
-    lacks t p k (here g q) = let x = leaf-child n e r rs a (same-level n r e st h q) (omega (arith, g)) (omega (arith, g)) in rw g at (x .1)
-    lacks t p k (further w) = lacks-tail n t r rs h (a .lacks t p k w)
+    lacks : (t : ℕ) → 67 ≤ t → t ≤ 70 → Sibling t (parentOf n e) (r ∷ e) → Lacks t (kids n rs)
+    lacks t p k (beside g q) = let x = leaf-child n e r rs a (same-level n r e st h q) (omega (arith, g)) (omega (arith, g)) in rw g at (x .1)
+    lacks t p k (past w) = lacks-tail n t r rs h (a .lacks t p k w)
 
 ahead-own : (e : List Rec) (r : Rec) (rs : List Rec) → Rule r rs → Ahead (suc (r .level)) (r ∷ e) rs
 ahead-own e r rs u =
     let p : parentOf (suc (r .level)) (r ∷ e) ≡ r ∷ e = parent-here (suc (r .level)) r e (omega arith) in
     record {
       free = λ q. u .other (header-not (r .tag) (sym (ap (parentIs header) p) ∙ q));
-      once = λ q. u .paragraph (header-yes (r .tag) (sym (ap (parentIs header) p) ∙ q));
-      lacks = λ t h k w. absurd (omega (arith, twin-short w, ap length p));
+      once = λ q. u .paragraph (header-is (r .tag) (sym (ap (parentIs header) p) ∙ q));
+      lacks = λ t h k w. absurd (omega (arith, sibling-short w, ap length p));
       bare = λ q. let l = leaf-is (r .tag) (sym (ap (parentIs leaf) p) ∙ q) in stops-under (r .level) rs (u .leaf (l .0) (l .1));
     }
 
@@ -214,7 +188,7 @@ ahead-next e r rs st u l a n = elim (lt-or (r .level) n) [
   | inr h ↦ ahead-up n e r rs st h (a n)
 ]
 
-placed-by : (e : List Rec) (r : Rec) (rs : List Rec) → Ahead (r .level) e (r ∷ rs) → Placed r e
+placed-by : (e : List Rec) (r : Rec) (rs : List Rec) → Ahead (r .level) e (r ∷ rs) → PlacedBy r e
 placed-by e r rs a =
     record {
       below-header = λ h. let l = leaf-is (r .tag) h in leaf-child (r .level) e r rs a refl (l .0) (l .1) .0;
@@ -226,12 +200,12 @@ placed-by e r rs a =
     above true q = absurd (let u = a .bare q in omega (arith, u))
     above false q = q
 
-    single : (67 ≤ r .tag) × (r .tag ≤ 70) → Twin (r .tag) (parentOf (r .level) e) e → ⊥
+    single : (67 ≤ r .tag) × (r .tag ≤ 70) → Sibling (r .tag) (parentOf (r .level) e) e → ⊥
     single l w =
         let own = kids-owned (r .level) r rs (side-owned (r .level) (r .tag) (r .level) refl (l .0) (omega (arith, l .1))) in
         (rw own at (a .lacks (r .tag) (l .0) (l .1) w)) .0 refl
 
-all-placed : (e rs : List Rec) → Stepped e → ((n : ℕ) → Ahead n e rs) → Each rs → Lawful (capOf e) rs → AllPlaced e rs
+all-placed : (e rs : List Rec) → Stepped e → ((n : ℕ) → Ahead n e rs) → Each rs → Lawful (capOf e) rs → AllPlacedBy e rs
 all-placed e [] st a u l = tt
 all-placed e (r ∷ rs) st a u l = (
   placed-by e r rs (a (r .level)),
@@ -241,8 +215,8 @@ all-placed e (r ∷ rs) st a u l = (
 ahead-start : (rs : List Rec) → Free (kids 0 rs) → Lawful 0 rs → (n : ℕ) → Ahead n [] rs
 unfolding parentOf
 ahead-start rs f l zero =
-    record { free = λ h. f; once = λ h. absurd (never h refl); lacks = λ t p q w. absurd (omega (arith, twin-short w)); bare = λ h. absurd (never h refl) }
+    record { free = λ h. f; once = λ h. absurd (never h refl); lacks = λ t p q w. absurd (omega (arith, sibling-short w)); bare = λ h. absurd (never h refl) }
 ahead-start rs f l (suc n) = ahead-none (suc n) [] rs (lawful-under 0 (suc n) rs l (omega arith))
 
 pub placed : (rs : List Rec) → Followed rs → Lawful 0 rs → AllPlaced [] rs
-placed rs p l = all-placed [] rs tt (ahead-start rs (p .roots) l) (p .each) l
+placed rs p l = all-by-parent [] rs .1 (all-placed [] rs tt (ahead-start rs (p .roots) l) (p .each) l)

@@ -11,7 +11,8 @@ use borrow.Author.Tests.{lt-leb}
 use Rattle.numbers.specs.Little.{little, bytesOf, span, Bytes}
 use Rattle.numbers.proofs.LittleLaws.{length-bytesOf, little-bytesOf, little-small, bytes-drop}
 use Rattle.text.specs.Units.{units}
-use Rattle.text.specs.Walk.{Sound, Token, tokens, extendedCount, AllOrdinary}
+use Rattle.text.specs.Asked.{SoundText}
+use Rattle.text.specs.Walk.{Token, tokens, extendedCount, AllOrdinary}
 use Rattle.text.proofs.UnitLaws.{length-units}
 use Rattle.text.proofs.PartLaws.{leftOver, shift, singles, tokens-parts, tokens-replaced, extended-kept, sound-kept}
 use Rattle.paragraph.specs.View.{View, child, controls}
@@ -23,7 +24,7 @@ use Rattle.paragraph.specs.declared.fields.Owner.the-variants as O
 use Rattle.acceptance.specs.Keeps.{First, Above, Rise, Below, LongEnough, Fields, Sized, Keeps}
 use Rattle.acceptance.proofs.ChainLaws.{some-none}
 use Rattle.filling.specs.Replacing.{replaced}
-use Rattle.filling.specs.Shapes.{Entry, startAt, inside, anyInside, moved, entryAt, shapesIn, packed, shapesAfter, Starts}
+use Rattle.filling.specs.Shapes.{Entry, startAt, inside, anyInside, moved, entryAt, shapesIn, packed, shapesAfter}
 use Rattle.filling.specs.Fields.{Field, fieldsIn, fields}
 use Rattle.filling.specs.Editing.{editView}
 use Rattle.filling.specs.Filling.{unitCount, Value, recounted, newHead, withBit15, altered, shapesOf, filling}
@@ -31,7 +32,7 @@ use Rattle.filling.proofs.ReplacingLaws.{replaced-at, length-replaced}
 use Rattle.filling.proofs.TextLaws.{units-replaced}
 use Rattle.filling.proofs.PackingLaws.{over-length, over-drop, over-here, length-packed, shapes-small}
 use Rattle.filling.proofs.FieldLaws.{Cut, cut, Among, a-positive, a-to-b}
-use Rattle.filling.proofs.ShapeLaws.{after-starts}
+use Rattle.filling.proofs.ShapeLaws.{StartsFrom, after-starts}
 use Rattle.filling.proofs.FillLaws.{first-word, recount-fits, marks-kept, mapped, text-filled, shapes-filled, layout-filled, marks-filled, read-after}
 use Rattle.filling.proofs.SearchLaws.{no-field, drop-altered, alteredAt, controls-filled}
 
@@ -46,22 +47,22 @@ gone P e b q = absurd (some-none (sym q ∙ e))
 -- ---- 13: what is asked of the starts, as the laws of shapes ask it of entries
 
 module _ (bound : ℕ) where
-  starts-behind : (x : ℕ) (es : List (List ℕ)) → Above x (map (little 4) es) → Below bound (map (little 4) es) → Starts (x + 1) bound bound (map entryAt es)
+  starts-behind : (x : ℕ) (es : List (List ℕ)) → Above x (map (little 4) es) → Below bound (map (little 4) es) → StartsFrom (x + 1) bound bound (map entryAt es)
   unfolding entryAt
   starts-behind x [] a b = tt
   starts-behind x (e ∷ es) a b = (omega (arith, a .0), b .0, starts-behind (little 4 e) es (a .1) (b .1))
 
-  starts-of : (es : List (List ℕ)) → First 0 (map (little 4) es) → Rise (map (little 4) es) → Below bound (map (little 4) es) → Starts 0 1 bound (map entryAt es)
+  starts-of : (es : List (List ℕ)) → First 0 (map (little 4) es) → Rise (map (little 4) es) → Below bound (map (little 4) es) → StartsFrom 0 1 bound (map entryAt es)
   unfolding entryAt
   starts-of [] f r b = tt
   starts-of (e ∷ es) f r b = (omega arith, omega (arith, f), starts-behind (little 4 e) es r (b .1))
 
-  behind-starts : (x : ℕ) (es : List (List ℕ)) → Starts (x + 1) bound bound (map entryAt es) → Above x (map (little 4) es) × Below bound (map (little 4) es)
+  behind-starts : (x : ℕ) (es : List (List ℕ)) → StartsFrom (x + 1) bound bound (map entryAt es) → Above x (map (little 4) es) × Below bound (map (little 4) es)
   unfolding entryAt
   behind-starts x [] s = (tt, tt)
   behind-starts x (e ∷ es) s = let k = behind-starts (little 4 e) es (s .2) in ((omega (arith, s .0), k .0), (s .1, k .1))
 
-  of-starts : (es : List (List ℕ)) → 0 < bound → Starts 0 1 bound (map entryAt es)
+  of-starts : (es : List (List ℕ)) → 0 < bound → StartsFrom 0 1 bound (map entryAt es)
       → First 0 (map (little 4) es) × Rise (map (little 4) es) × Below bound (map (little 4) es)
   unfolding entryAt
   of-starts [] h s = (tt, tt, tt)
@@ -126,7 +127,7 @@ module _ (f : Field) (us w : List ℕ) (k : Cut f us) (o : AllOrdinary w) where
   cut-replaced : replaced (f .a) (f .b) w us ≡ k .before ++ (w ++ k .behind)
   cut-replaced = ap (replaced (f .a) (f .b) w) (k .is) ∙ replaced-at (k .before) (k .within) (k .behind) w (f .a) (f .b) (k .at-a) (k .at-b)
 
-  pub text-sound : Sound us → Sound (replaced (f .a) (f .b) w us)
+  pub text-sound : SoundText us → SoundText (replaced (f .a) (f .b) w us)
   text-sound s = rw cut-replaced (sound-kept (k .before) (k .within) (k .behind) w (k .ended) (k .ordinary) o (k .closes) (rw (k .is) at s))
 
   pub extended-same : extendedCount (replaced (f .a) (f .b) w us) ≡ extendedCount us
@@ -197,7 +198,7 @@ after-fewer a b v (e ∷ l) = go (inside a b (e .start) && anyInside a b l) (aft
     go false h = omega arith
 
 -- the first start is 0 and stays
-after-some : (a b v n : ℕ) (l : List Entry) → 0 < a → Starts 0 1 n l → 0 < length l → 0 < length (shapesAfter a b v l)
+after-some : (a b v n : ℕ) (l : List Entry) → 0 < a → StartsFrom 0 1 n l → 0 < length l → 0 < length (shapesAfter a b v l)
 unfolding shapesAfter inside
 after-some a b v n [] z s h = h
 after-some a b v n (e ∷ l) z s h = rw (lt-leb a (e .start) (omega (arith, s .1))) (omega arith)
@@ -217,7 +218,7 @@ length-shapes b = length-map (entries 8 (length b / 8) b) entryAt ∙ length-ent
 build : (v : View) (n k : ℕ) (t s : List ℕ) (bs : List (List ℕ)) → 22 ≤ length (v .head)
     → countsOf (v .head) ≡ record { count = n; shapes = k; marks = 0; lines = 0 }
     → child 67 (v .own) ≡ some t → child 68 (v .own) ≡ some s → child 69 (v .own) ≡ none → child 70 (v .own) ≡ none → controls (v .own) ≡ bs
-    → Sized 2 n t → Sized 8 k s → Sound (units t) → Starts 0 1 n (shapesIn s)
+    → Sized 2 n t → Sized 8 k s → SoundText (units t) → StartsFrom 0 1 n (shapesIn s)
     → extendedCount (units t) ≡ length bs → Fields (codesIn (tokens (units t))) bs → Keeps v
 unfolding shapesIn
 build v n k t s bs l c e₁ e₂ e₃ e₄ e₅ st ss ts sh ex ff =
@@ -227,7 +228,7 @@ build v n k t s bs l c e₁ e₂ e₃ e₄ e₅ st ss ts sh ex ff =
       header-long = l;
       text-absent = λ e. absurd (some-none (sym e₁ ∙ e));
       text-sized = only (Sized 2 (countsOf (v .head) .count)) e₁ (rw c st);
-      text-sound = only (λ b. Sound (units b)) e₁ ts;
+      text-sound = only (λ b. SoundText (units b)) e₁ ts;
       shapes-there = λ e. some-none (sym e₂ ∙ e);
       shapes-sized = only (Sized 8 (countsOf (v .head) .shapes)) e₂ (rw c ss);
       shapes-first = rw e₂ (starts .0);
@@ -246,8 +247,8 @@ build v n k t s bs l c e₁ e₂ e₃ e₄ e₅ st ss ts sh ex ff =
 pub record Written (v : View) (t s : List ℕ) : Type 0 where
   pub text-sized : Sized 2 (countsOf (v .head) .count) t
   pub shapes-sized : Sized 8 (countsOf (v .head) .shapes) s
-  pub sound : Sound (units t)
-  pub starts : Starts 0 1 (countsOf (v .head) .count) (shapesIn s)
+  pub sound : SoundText (units t)
+  pub starts : StartsFrom 0 1 (countsOf (v .head) .count) (shapesIn s)
   pub matched : extendedCount (units t) ≡ length (controls (v .own))
   pub fields : Fields (codesIn (tokens (units t))) (controls (v .own))
 
@@ -350,7 +351,7 @@ module _ (v : View) (f : Field) (w : List ℕ) (g : Fillable v f w) (t s : List 
       read-after (f .a) (f .b) (unitCount w) (countsOf (v .head) .count) (ends .0) (ends .1) (ends .2) (omega (arith, g .small, g .value .short))
       (shapesIn s) (fact .starts) (shapes-small s (g .shapes-bytes s e₂))
 
-  starts-filled : Starts 0 1 (countsOf (v .head) .count + unitCount w - (f .b - f .a))
+  starts-filled : StartsFrom 0 1 (countsOf (v .head) .count + unitCount w - (f .b - f .a))
       (shapesIn (packed (shapesAfter (f .a) (f .b) (unitCount w) (shapesIn s))))
   starts-filled = rw read-shapes (after-starts (f .a) (f .b) (unitCount w) (countsOf (v .head) .count) (ends .0) (ends .1) (ends .2) (shapesIn s) (fact .starts))
 

@@ -12,10 +12,12 @@ use lib.Dec.{eqb}
 use lib.ListN.{length, getElem?, length-append, length-take, length-drop}
 use borrow.Author.Tests.{eq-eqb, ne-eqb, eqb-true}
 use Rattle.records.specs.Records.{Rec, encode, size}
+use Rattle.records.specs.Parents.{Lacks}
 use Rattle.records.proofs.HeaderLaws.{lead-short, lead-long, lead-bounds}
 use Rattle.records.proofs.ScanLaws.{length-encode}
 use Rattle.text.specs.Units.{units}
-use Rattle.text.specs.Walk.{what, width, Token, walk, tokens, isExtended}
+use Rattle.text.specs.Asked.{what, width}
+use Rattle.text.specs.Walk.{Token, walk, tokens, isExtended}
 use Rattle.text.specs.declared.Class.{Class}
 use Rattle.text.specs.declared.Class.the-variants.{Character, Inline, Extended}
 use Rattle.text.specs.declared.Control.{Control}
@@ -28,8 +30,8 @@ use Rattle.paragraph.proofs.BodyLaws.{kids-owned, kids-passed, controls-here, c
 use Rattle.filling.specs.Replacing.{replaced}
 use Rattle.filling.specs.Shapes.{shapesIn, packed, shapesAfter}
 use Rattle.filling.specs.Fields.{Field, next, fieldAt, fieldsIn, fields}
-use Rattle.filling.specs.Editing.{Change, Edit, withBody, put, countControl, editBehind, editAt}
-use Rattle.filling.specs.Placing.{Lacks, Once}
+use Rattle.filling.specs.Editing.{Change, Edit, withBody, put, countControl, editBehind, editAt, asChild}
+use Rattle.filling.specs.Placing.{Once}
 use Rattle.filling.specs.Search.{Hit}
 use Rattle.filling.specs.Filling.{unitCount, altered, newBody, filling, filled}
 use Rattle.acceptance.specs.Keeps.{Fields, Keeps}
@@ -46,10 +48,10 @@ use Rattle.filling.proofs.AcceptedLaws.{view-once, ready, follows, keep
 -- ---- the control header of a field is long enough for its properties
 
 -- the field's code 3 is the one of its ordinal among the codes, before which n extended controls stand
-record Owns (n : ℕ) (f : Field) (cs : List ℕ) : Type 0 where
-  nth : ℕ
-  ordinal : f .ordinal ≡ n + nth
-  code : getElem? cs nth ≡ some 3
+pub record Owns (n : ℕ) (f : Field) (cs : List ℕ) : Type 0 where
+  pub nth : ℕ
+  pub ordinal : f .ordinal ≡ n + nth
+  pub code : getElem? cs nth ≡ some 3
 
 codes-behind : (s : Standing) (cs : List ℕ) (i : ℕ) → getElem? (codeBefore (ownerOf s) cs) (isExtended s + i) ≡ getElem? cs i
 codes-behind (St.Ordinary u) cs i = ap (getElem? cs) (zero-add i)
@@ -90,7 +92,7 @@ owns-step n t ts f ext on m = elim (seen (t .what)) [
         }
     here c x z (inr q) = owns-behind n f (St.Control c) (codesIn ts) (on (isExtended (St.Control c) + n) q)
 
-owns : (n p k : ℕ) (us : List ℕ) (f : Field) → Among f (fieldsIn n (walk p k us)) → Owns n f (codesIn (walk p k us))
+pub owns : (n p k : ℕ) (us : List ℕ) (f : Field) → Among f (fieldsIn n (walk p k us)) → Owns n f (codesIn (walk p k us))
 unfolding walk
 owns n p k [] f m = absurd (none-there n f m)
 owns n p (suc k) (u ∷ us) f m = owns n (p + 1) k us f m
@@ -108,7 +110,7 @@ codes-long zero (x ∷ cs) (y ∷ bs) b k c d =
     rw (← same) (k .0 three .fixed)
 codes-long (suc i) (x ∷ cs) (y ∷ bs) b k c d = codes-long i cs bs b (k .1) c d
 
-field-long : (v : View) (f : Field) → Keeps v → Among f (fields v) → (b : List ℕ) → getElem? (controls (v .own)) (f .ordinal) ≡ some b → 15 ≤ length b
+pub field-long : (v : View) (f : Field) → Keeps v → Among f (fields v) → (b : List ℕ) → getElem? (controls (v .own)) (f .ordinal) ≡ some b → 15 ≤ length b
 unfolding fields tokens
 field-long v f k m b e =
     let o = owns 0 0 0 (units (bytesIn (child 67 (v .own)))) f m in
@@ -143,7 +145,7 @@ growths c (r ∷ k) = growth c (r .tag) + growths c k
 abbrev Grow : Change → ℕ → ℕ → List Rec → Type 0
 Grow f c j [] = Unit {0}
 Grow f c j (r ∷ k) =
-    ((b : List ℕ) → f j (r .tag) (r .body) ≡ some b → size (withBody b r) ≤ size r + growth c (r .tag)) × Grow f c (countControl (r .tag) j) k
+    ((b : List ℕ) → f (asChild j r) ≡ some b → size (withBody b r) ≤ size r + growth c (r .tag)) × Grow f c (countControl (r .tag) j) k
 
 growth-text : (c t : ℕ) → t ≡ 67 → growth c t ≡ c
 unfolding growth
@@ -185,7 +187,7 @@ length-behind n j f c (r ∷ rs) g = elim (which n (r .tag) (r .level)) [
   | is-owned l t e ↦
       (let d : Grow f c j (r ∷ kids n rs) = rw (kids-owned n r rs e) at g in
       rw (behind-owned n j f r rs e, kids-owned n r rs e)
-      (length-put (f j (r .tag) (r .body)) r _ rs (growth c (r .tag)) (growths c (kids n rs)) (d .0)
+      (length-put (f (asChild j r)) r _ rs (growth c (r .tag)) (growths c (kids n rs)) (d .0)
       (length-behind n (countControl (r .tag) j) f c rs (d .1))))
   | is-passed l e ↦
       (let d : Grow f c j (kids n rs) = rw (kids-passed n r rs e) at g in
@@ -228,7 +230,7 @@ most-shapes a b v s = omega (arith, length-packed (shapesAfter a b v (shapesIn s
 
 module _ (f : Field) (w : List ℕ) (ab : f .a ≤ f .b) where
   -- one child: the header of the field's control is long enough for its properties
-  grow-body : (j : ℕ) (r : Rec) → (r .tag ≡ 71 → j ≡ f .ordinal → 8 ≤ length (r .body)) → (b : List ℕ) → newBody f w j (r .tag) (r .body) ≡ some b
+  grow-body : (j : ℕ) (r : Rec) → (r .tag ≡ 71 → j ≡ f .ordinal → 8 ≤ length (r .body)) → (b : List ℕ) → newBody f w (asChild j r) ≡ some b
       → size (withBody b r) ≤ size r + growth (length w + 4) (r .tag)
   grow-body j r long b e = elim (kind (r .tag)) [
     | text h ↦

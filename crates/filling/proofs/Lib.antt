@@ -1,5 +1,4 @@
 pub mod ShapeLaws
-pub mod ShapeCases
 pub mod AnswerLaws
 pub mod ReplacingLaws
 pub mod PackingLaws
@@ -16,3 +15,5 @@ pub mod AcceptedLaws
 pub mod ChangeLaws
 pub mod FieldTextLaws
 pub mod LengthLaws
+pub mod TemplateLaws
+pub mod NearLaws

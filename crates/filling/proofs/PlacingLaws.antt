@@ -6,11 +6,12 @@ use native.Mathlib.Omega.{arith}
 use mathlib.Core.Option.{Option, none, some}
 use mathlib.Core.List.{List, [], _∷_}
 use lib.ListN.{length}
-use Rattle.records.specs.Records.{Rec, Obeys, Lawful}
+use Rattle.records.specs.Records.{Rec, RecordObeys, Lawful}
+use Rattle.records.specs.Parents.{Lacks}
 use Rattle.text.proofs.Cases.{eq-or}
 use Rattle.paragraph.specs.View.{kids, view}
-use Rattle.filling.specs.Editing.{Change, Edit, withBody, put, countControl, changed, editBehind, editAt, TakesLayout}
-use Rattle.filling.specs.Placing.{Stops, Leaves, Bodies, Lacks, Once, Rule, Each, Followed}
+use Rattle.filling.specs.Editing.{Change, Edit, withBody, put, countControl, changed, editBehind, editAt, TakesLayout, asChild}
+use Rattle.filling.specs.Placing.{Stops, Leaves, Bodies, Once, Rule, Each, Followed}
 use Rattle.filling.proofs.EditLaws.{is-beyond, is-owned, is-passed, which, behind-beyond, behind-owned, behind-passed, behind-nil, kids-same, kids-below, kids-editAt, at-next, at-past, at-nil, at-view}
 
 pub leaves : (rs : List Rec) → Each rs → Leaves rs
@@ -27,7 +28,7 @@ lacks-put t (some b) r x h l = (h, l)
 lacks-changed : (t j : ℕ) (f : Change) (k : List Rec) → Lacks t k → Lacks t (changed j f k)
 unfolding changed
 lacks-changed t j f [] l = tt
-lacks-changed t j f (r ∷ k) l = lacks-put t (f j (r .tag) (r .body)) r (changed (countControl (r .tag) j) f k) (l .0) (lacks-changed t (countControl (r .tag) j) f k (l .1))
+lacks-changed t j f (r ∷ k) l = lacks-put t (f (asChild j r)) r (changed (countControl (r .tag) j) f k) (l .0) (lacks-changed t (countControl (r .tag) j) f k (l .1))
 
 once-put : (o : Option (List ℕ)) (r : Rec) (x : List Rec) → (r .tag ≤ 70 → Lacks (r .tag) x) → Once x → Once (put o r x)
 unfolding put withBody
@@ -37,7 +38,7 @@ once-put (some b) r x h l = (h, l)
 once-changed : (j : ℕ) (f : Change) (k : List Rec) → Once k → Once (changed j f k)
 unfolding changed
 once-changed j f [] o = tt
-once-changed j f (r ∷ k) o = once-put (f j (r .tag) (r .body)) r (changed (countControl (r .tag) j) f k) (λ h. lacks-changed (r .tag) (countControl (r .tag) j) f k (o .0 h)) (once-changed (countControl (r .tag) j) f k (o .1))
+once-changed j f (r ∷ k) o = once-put (f (asChild j r)) r (changed (countControl (r .tag) j) f k) (λ h. lacks-changed (r .tag) (countControl (r .tag) j) f k (o .0 h)) (once-changed (countControl (r .tag) j) f k (o .1))
 
 -- ---- stops and levels
 
@@ -46,7 +47,7 @@ unfolding put withBody
 stops-behind m n j f [] q v s = rw (behind-nil n j f) tt
 stops-behind m n j f (r ∷ rs) q v s = elim (which n (r .tag) (r .level)) [
   | is-beyond l e ↦ rw (behind-beyond n j f r rs e) s
-  | is-owned l t e ↦ rw (behind-owned n j f r rs e) (go (f j (r .tag) (r .body)) refl (stops-behind m n (countControl (r .tag) j) f rs q (v .1)))
+  | is-owned l t e ↦ rw (behind-owned n j f r rs e) (go (f (asChild j r)) refl (stops-behind m n (countControl (r .tag) j) f rs q (v .1)))
   | is-passed l e ↦ rw (behind-passed n j f r rs e) s
 ]
   where
@@ -54,9 +55,9 @@ stops-behind m n j f (r ∷ rs) q v s = elim (which n (r .tag) (r .level)) [
     weaker [] h = tt
     weaker (y ∷ x) h = omega arith
 
-    go : (o : Option (List ℕ)) → f j (r .tag) (r .body) ≡ o → (Stops m rs → Stops m (editBehind n (countControl (r .tag) j) f rs))
+    go : (o : Option (List ℕ)) → f (asChild j r) ≡ o → (Stops m rs → Stops m (editBehind n (countControl (r .tag) j) f rs))
         → Stops m (put o r (editBehind n (countControl (r .tag) j) f rs))
-    go none e ih = ih (weaker rs (v .0 (q j (r .tag) (r .body) e)))
+    go none e ih = ih (weaker rs (v .0 (q (asChild j r) e)))
     go (some b) e ih = s
 
 -- where a record goes, what follows it may stand in its place
@@ -67,7 +68,7 @@ lawful-weaker l m (r ∷ rs) h s v =
     (record { tag-low = o .tag-low; tag-high = o .tag-high; level-cap = omega arith; level-high = o .level-high; body-fits = o .body-fits }, v .1)
 
 -- a record obeys with any body that fits
-obeys-body : (m : ℕ) (r : Rec) (b : List ℕ) → Obeys m r → length b < 4294967296 → Obeys m (withBody b r)
+obeys-body : (m : ℕ) (r : Rec) (b : List ℕ) → RecordObeys m r → length b < 4294967296 → RecordObeys m (withBody b r)
 unfolding withBody
 obeys-body m r b o h = record { tag-low = o .tag-low; tag-high = o .tag-high; level-cap = o .level-cap; level-high = o .level-high; body-fits = h }
 
@@ -78,15 +79,15 @@ lawful-behind m n j f [] q v s z = rw (behind-nil n j f) tt
 lawful-behind m n j f (r ∷ rs) q v s z = elim (which n (r .tag) (r .level)) [
   | is-beyond l e ↦ rw (behind-beyond n j f r rs e) s
   | is-owned l t e ↦ rw (behind-owned n j f r rs e)
-      (go (f j (r .tag) (r .body)) refl (λ k. lawful-behind k n (countControl (r .tag) j) f rs q (v .1)) (rw (behind-owned n j f r rs e) at z))
+      (go (f (asChild j r)) refl (λ k. lawful-behind k n (countControl (r .tag) j) f rs q (v .1)) (rw (behind-owned n j f r rs e) at z))
   | is-passed l e ↦ (let y : Bodies (r ∷ editBehind n j f rs) = rw (behind-passed n j f r rs e) at z in
       rw (behind-passed n j f r rs e) (s .0, lawful-behind (r .level + 1) n j f rs q (v .1) (s .1) (y .1)))
 ]
   where
-    go : (o : Option (List ℕ)) → f j (r .tag) (r .body) ≡ o
+    go : (o : Option (List ℕ)) → f (asChild j r) ≡ o
         → ((k : ℕ) → Lawful k rs → Bodies (editBehind n (countControl (r .tag) j) f rs) → Lawful k (editBehind n (countControl (r .tag) j) f rs))
         → Bodies (put o r (editBehind n (countControl (r .tag) j) f rs)) → Lawful m (put o r (editBehind n (countControl (r .tag) j) f rs))
-    go none e ih y = ih m (lawful-weaker (r .level) m rs (s .0 .level-cap) (v .0 (q j (r .tag) (r .body) e)) (s .1)) y
+    go none e ih y = ih m (lawful-weaker (r .level) m rs (s .0 .level-cap) (v .0 (q (asChild j r) e)) (s .1)) y
     go (some b) e ih y = unfold withBody in (obeys-body m r b (s .0) (y .0), ih (r .level + 1) (s .1) (y .1))
 
 -- ---- every record's rule
@@ -105,7 +106,7 @@ unfolding put withBody
 each-behind n j f [] q u = rw (behind-nil n j f) tt
 each-behind n j f (r ∷ rs) q u = elim (which n (r .tag) (r .level)) [
   | is-beyond l e ↦ rw (behind-beyond n j f r rs e) u
-  | is-owned l t e ↦ rw (behind-owned n j f r rs e) (go (f j (r .tag) (r .body)) (omega arith) (each-behind n (countControl (r .tag) j) f rs q (u .1)))
+  | is-owned l t e ↦ rw (behind-owned n j f r rs e) (go (f (asChild j r)) (omega arith) (each-behind n (countControl (r .tag) j) f rs q (u .1)))
   | is-passed l e ↦ rw (behind-passed n j f r rs e) (rule-behind n j f r (r .body) rs l q (leaves rs (u .1)) (u .0), each-behind n j f rs q (u .1))
 ]
   where

@@ -21,7 +21,7 @@ use Rattle.paragraph.proofs.BodyLaws.{controls-here, controls-other}
 use Rattle.paragraph.specs.Rules.{countsOf, bytesIn}
 use Rattle.filling.specs.Replacing.{replaced}
 use Rattle.filling.specs.Fields.{Field, fieldsIn, fields, idIn, idOf, withId}
-use Rattle.filling.specs.Editing.{withBody, put, countControl, changed, editView, modified}
+use Rattle.filling.specs.Editing.{withBody, put, countControl, changed, editView, modified, asChild}
 use Rattle.filling.specs.Search.{Hit, hitOf, hits}
 use Rattle.filling.specs.Filling.{unitCount, withBit15, altered, newBody, filling}
 use Rattle.filling.proofs.PackingLaws.{over-drop}
@@ -75,7 +75,7 @@ module _ (f : Field) (w : List ℕ) where
     | inl h ↦ rw (body-control f w j (r .tag) (r .body) h, controls-here r k h)
         (controls-new r (cond (eqb j (f .ordinal)) (altered (r .body)) (r .body)) (changed (countControl (r .tag) j) (newBody f w) k) h
         ∙ rw (count-next (r .tag) j h, controls-filled (suc j) k) (unfold alteredAt in refl))
-    | inr h ↦ controls-put (newBody f w j (r .tag) (r .body)) r (changed (countControl (r .tag) j) (newBody f w) k) h
+    | inr h ↦ controls-put (newBody f w (asChild j r)) r (changed (countControl (r .tag) j) (newBody f w) k) h
         ∙ rw (count-same (r .tag) j h, controls-other r k h) (controls-filled j k)
   ]
 

@@ -9,7 +9,7 @@ use mathlib.Core.List.{List, [], _∷_, map}
 use lib.Dec.{leb, eqb}
 use borrow.Author.Tests.{lt-ltb, le-ltb, eq-eqb, ne-eqb, le-leb, lt-leb}
 use Rattle.text.proofs.Cases.{lt-or, eq-or}
-use Rattle.filling.specs.Shapes.{Entry, startAt, inside, anyInside, moved, shapesAfter, Starts}
+use Rattle.filling.specs.Shapes.{Entry, startAt, inside, anyInside, moved, shapesAfter}
 
 -- ---- where one start goes
 
@@ -146,7 +146,13 @@ placed-again a b v w l h =
 
 -- ---- document 01's words leave the same, where the starts rise
 
-none-inside : (a b low high n : ℕ) (l : List Entry) → b < low → Starts low high n l → anyInside a b l ≡ false
+-- what document 01 asks of starts (`acceptance`: First, Rise, Below) as a walk over the entries meets it: the next one from `low` up to but
+-- not including `high`, each behind it above the one before and below `bound`
+abbrev pub StartsFrom : ℕ → ℕ → ℕ → List Entry → Type 0
+StartsFrom low high bound [] = Unit {0}
+StartsFrom low high bound (e ∷ es) = (low ≤ e .start) × (e .start < high) × StartsFrom (e .start + 1) bound bound es
+
+none-inside : (a b low high n : ℕ) (l : List Entry) → b < low → StartsFrom low high n l → anyInside a b l ≡ false
 unfolding anyInside inside
 none-inside a b low high n [] h s = refl
 none-inside a b low high n (y ∷ l) h s =
@@ -157,7 +163,7 @@ none-inside a b low high n (y ∷ l) h s =
     go false = refl
 
 -- of two neighbours the first is dropped exactly if both go to one place
-dropped : (a b v n : ℕ) → a ≤ b → (x y : Entry) (l : List Entry) → x .start < y .start → Starts (y .start + 1) n n l
+dropped : (a b v n : ℕ) → a ≤ b → (x y : Entry) (l : List Entry) → x .start < y .start → StartsFrom (y .start + 1) n n l
     → (inside a b (x .start) && anyInside a b (y ∷ l)) ≡ eqb (moved a b v (x .start)) (moved a b v (y .start))
 unfolding inside anyInside
 dropped a b v n h x y l r s = elim (lt-or (x .start) a) [
@@ -191,7 +197,7 @@ after-cons : (a b v : ℕ) (x : Entry) (l : List Entry) → shapesAfter a b v (x
 unfolding shapesAfter to
 after-cons a b v x l = refl
 
-after-keep : (a b v n : ℕ) → a ≤ b → (x : Entry) (l : List Entry) → Starts (x .start + 1) n n l
+after-keep : (a b v n : ℕ) → a ≤ b → (x : Entry) (l : List Entry) → StartsFrom (x .start + 1) n n l
     → shapesAfter a b v (x ∷ l) ≡ keepLast (to (moved a b v) x) (map (to (moved a b v)) l)
 unfolding keepLast
 after-keep a b v n h x [] s = after-one a b v x
@@ -199,7 +205,7 @@ after-keep a b v n h x (y ∷ l) s =
     after-cons a b v x (y ∷ l)
     ∙ rw (dropped a b v n h x y l (omega (arith, s .0)) (s .2), after-keep a b v n h y l (s .2)) (unfold to startAt in refl)
 
-pub after-is : (a b v low high n : ℕ) → a ≤ b → (l : List Entry) → Starts low high n l → shapesAfter a b v l ≡ placed a b v l
+pub after-is : (a b v low high n : ℕ) → a ≤ b → (l : List Entry) → StartsFrom low high n l → shapesAfter a b v l ≡ placed a b v l
 unfolding placed lasts shapesAfter
 after-is a b v low high n h [] s = refl
 after-is a b v low high n h (x ∷ l) s = after-keep a b v n h x l (s .2)
@@ -211,14 +217,14 @@ abbrev Weak : ℕ → ℕ → List Entry → Type 0
 Weak low n [] = Unit {0}
 Weak low n (e ∷ es) = (low ≤ e .start) × (e .start < n) × Weak (e .start) n es
 
-weak-moved : (a b v low n : ℕ) → a ≤ b → b < n → (l : List Entry) → Starts (low + 1) n n l
+weak-moved : (a b v low n : ℕ) → a ≤ b → b < n → (l : List Entry) → StartsFrom (low + 1) n n l
     → Weak (moved a b v low) (n + v - (b - a)) (map (to (moved a b v)) l)
 unfolding to startAt
 weak-moved a b v low n h k [] s = tt
 weak-moved a b v low n h k (y ∷ l) s =
     (moved-mono a b v low (y .start) h (omega (arith, s .0)), moved-below a b v n (y .start) h k (s .1), weak-moved a b v (y .start) n h k l (s .2))
 
-keep-starts : (low n : ℕ) (x : Entry) (l : List Entry) → low ≤ x .start → x .start < n → Weak (x .start) n l → Starts low n n (keepLast x l)
+keep-starts : (low n : ℕ) (x : Entry) (l : List Entry) → low ≤ x .start → x .start < n → Weak (x .start) n l → StartsFrom low n n (keepLast x l)
 unfolding keepLast
 keep-starts low n x [] h k w = (h, k, tt)
 keep-starts low n x (y ∷ r) h k w = elim (eq-or (x .start) (y .start)) [
@@ -227,15 +233,15 @@ keep-starts low n x (y ∷ r) h k w = elim (eq-or (x .start) (y .start)) [
 ]
 
 -- the first start stays first
-starts-high : (low high n : ℕ) (x : Entry) (l : List Entry) → x .start < high → Starts low n n (keepLast x l) → Starts low high n (keepLast x l)
+starts-high : (low high n : ℕ) (x : Entry) (l : List Entry) → x .start < high → StartsFrom low n n (keepLast x l) → StartsFrom low high n (keepLast x l)
 starts-high low high n x l h s = go (keep-head x l)
   where
-    go : Head x (keepLast x l) → Starts low high n (keepLast x l)
+    go : Head x (keepLast x l) → StartsFrom low high n (keepLast x l)
     go k = let t = rw (k .is) at s in rw (k .is) (t .0, omega (arith, k .same), t .2)
 
 -- a list of starts that begins at 0, rises and stays below the count still does so after a fill
-pub after-starts : (a b v n : ℕ) → 0 < a → a ≤ b → b < n → (l : List Entry) → Starts 0 1 n l
-    → Starts 0 1 (n + v - (b - a)) (shapesAfter a b v l)
+pub after-starts : (a b v n : ℕ) → 0 < a → a ≤ b → b < n → (l : List Entry) → StartsFrom 0 1 n l
+    → StartsFrom 0 1 (n + v - (b - a)) (shapesAfter a b v l)
 unfolding placed lasts
 after-starts a b v n z h k [] s = unfold shapesAfter in tt
 after-starts a b v n z h k (x ∷ l) s =
@@ -249,7 +255,7 @@ after-starts a b v n z h k (x ∷ l) s =
 -- ---- two fills
 
 -- of two fields of one paragraph, in either order: the second field stands behind the first
-pub after-comm : (a₁ b₁ v₁ a₂ b₂ v₂ n : ℕ) (l : List Entry) → 0 < a₁ → a₁ ≤ b₁ → b₁ < a₂ → a₂ ≤ b₂ → b₂ < n → Starts 0 1 n l
+pub after-comm : (a₁ b₁ v₁ a₂ b₂ v₂ n : ℕ) (l : List Entry) → 0 < a₁ → a₁ ≤ b₁ → b₁ < a₂ → a₂ ≤ b₂ → b₂ < n → StartsFrom 0 1 n l
     → shapesAfter (a₂ + v₁ - (b₁ - a₁)) (b₂ + v₁ - (b₁ - a₁)) v₂ (shapesAfter a₁ b₁ v₁ l) ≡ shapesAfter a₁ b₁ v₁ (shapesAfter a₂ b₂ v₂ l)
 after-comm a₁ b₁ v₁ a₂ b₂ v₂ n l z h₁ h h₂ k s =
     after-is _ _ v₂ 0 1 (n + v₁ - (b₁ - a₁)) (omega arith) (shapesAfter a₁ b₁ v₁ l) (after-starts a₁ b₁ v₁ n z h₁ (omega arith) l s)
@@ -257,7 +263,7 @@ after-comm a₁ b₁ v₁ a₂ b₂ v₂ n l z h₁ h h₂ k s =
     (sym (after-is a₁ b₁ v₁ 0 1 (n + v₂ - (b₂ - a₂)) h₁ (shapesAfter a₂ b₂ v₂ l) (after-starts a₂ b₂ v₂ n (omega arith) h₂ k l s)))
 
 -- of one field twice: the second alone
-pub after-again : (a b v w n : ℕ) (l : List Entry) → 0 < a → a ≤ b → b < n → Starts 0 1 n l
+pub after-again : (a b v w n : ℕ) (l : List Entry) → 0 < a → a ≤ b → b < n → StartsFrom 0 1 n l
     → shapesAfter a (a + v) w (shapesAfter a b v l) ≡ shapesAfter a b w l
 after-again a b v w n l z h k s =
     after-is a (a + v) w 0 1 (n + v - (b - a)) (omega arith) (shapesAfter a b v l) (after-starts a b v n z h k l s)

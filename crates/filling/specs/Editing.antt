@@ -11,9 +11,18 @@ use Rattle.records.specs.Records.{Rec}
 use Rattle.paragraph.specs.View.{View, view, side}
 use Rattle.paragraph.specs.declared.view.Side.the-variants as S
 
--- a child's new body, or none where the record goes; by the number of control headers before it, its tag and its body
+-- an owned child of the paragraph: how many control headers stand before it, its tag, and its body
+pub record OwnedChild : Type 0 where
+  pub before : ℕ
+  pub tag : ℕ
+  pub body : List ℕ
+
+abbrev pub asChild : ℕ → Rec → OwnedChild
+asChild before r = record { before = before; tag = r .tag; body = r .body }
+
+-- what becomes of a child: its new body, or none where the record goes
 abbrev pub Change : Type 0
-Change = ℕ → ℕ → List ℕ → Option (List ℕ)
+Change = OwnedChild → Option (List ℕ)
 
 pub record Edit : Type 0 where
   pub head : View → List ℕ
@@ -34,7 +43,7 @@ countControl t j = cond (eqb t kind.controlHeader) (suc j) j
 -- a list of children changed, before which j control headers stand
 unfoldable pub changed : ℕ → Change → List Rec → List Rec
 changed j f [] = []
-changed j f (r ∷ k) = put (f j (r .tag) (r .body)) r (changed (countControl (r .tag) j) f k)
+changed j f (r ∷ k) = put (f (asChild j r)) r (changed (countControl (r .tag) j) f k)
 
 -- a view edited
 unfoldable pub editView : Edit → View → View
@@ -46,7 +55,7 @@ editBehind n j f [] = []
 editBehind n j f (r ∷ rs) =
     elim (side n (r .tag) (r .level)) [
       | S.Beyond ↦ r ∷ rs
-      | S.Owned ↦ put (f j (r .tag) (r .body)) r (editBehind n (countControl (r .tag) j) f rs)
+      | S.Owned ↦ put (f (asChild j r)) r (editBehind n (countControl (r .tag) j) f rs)
       | S.Passed ↦ r ∷ editBehind n j f rs
     ]
 
@@ -70,15 +79,15 @@ modified (suc i) g (v ∷ vs) = v ∷ modified i g vs
 
 -- a change that takes away layout records only
 abbrev pub TakesLayout : Change → Type 0
-TakesLayout f = (j t : ℕ) (b : List ℕ) → f j t b ≡ none → t ≡ kind.layout
+TakesLayout f = (c : OwnedChild) → f c ≡ none → c .tag ≡ kind.layout
 
 -- one after another
-unfoldable pub thenBody : Change → ℕ → ℕ → Option (List ℕ) → Option (List ℕ)
-thenBody g j t none = none
-thenBody g j t (some b) = g j t b
+unfoldable pub thenBody : Change → OwnedChild → Option (List ℕ) → Option (List ℕ)
+thenBody g c none = none
+thenBody g c (some b) = g (record { before = c .before; tag = c .tag; body = b })
 
 unfoldable pub thenChange : Change → Change → Change
-thenChange f g j t b = thenBody g j t (f j t b)
+thenChange f g c = thenBody g c (f c)
 
 unfoldable pub thenEdit : Edit → Edit → Edit
 thenEdit e d = record { head = λ v. d .head (editView e v); child = thenChange (e .child) (d .child) }

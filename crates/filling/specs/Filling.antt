@@ -9,7 +9,7 @@ use lib.ListN.{length, drop}
 use Rattle.numbers.specs.Little.{little, bytesOf}
 use Rattle.records.specs.Kinds as kind
 use Rattle.records.specs.Records.{Rec, limit, encode}
-use Rattle.records.specs.Answers.{refusedAt, numberOf}
+use Rattle.records.specs.Answers.{refusedAt, numberOf, hostForm}
 use Rattle.records.specs.declared.fault.Fault.{Fault}
 use Rattle.records.specs.declared.fault.Fault.the-variants as F
 use Rattle.records.specs.declared.fault.Answer.{Answer}
@@ -74,11 +74,11 @@ shapesOf (some s) = shapesIn s
 
 -- by the child's tag: text 67, shapes 68, layout 69, control header 71
 unfoldable pub newBody : Field → List ℕ → Change
-newBody f value j t body =
-    cond (eqb t kind.text) (some (replaced (2 * f .a) (2 * f .b) value body))
-    (cond (eqb t kind.shapes) (some (packed (shapesAfter (f .a) (f .b) (unitCount value) (shapesIn body))))
-    (cond (eqb t kind.layout) none
-    (cond (eqb t kind.controlHeader) (some (cond (eqb j (f .ordinal)) (altered body) body)) (some body))))
+newBody f value c =
+    cond (eqb (c .tag) kind.text) (some (replaced (2 * f .a) (2 * f .b) value (c .body)))
+    (cond (eqb (c .tag) kind.shapes) (some (packed (shapesAfter (f .a) (f .b) (unitCount value) (shapesIn (c .body)))))
+    (cond (eqb (c .tag) kind.layout) none
+    (cond (eqb (c .tag) kind.controlHeader) (some (cond (eqb (c .before) (f .ordinal)) (altered (c .body)) (c .body))) (some (c .body)))))
 
 -- the fill of a field as an edit of its paragraph
 unfoldable pub filling : Field → List ℕ → Edit
@@ -148,3 +148,7 @@ textPlace (T.Refused r) = r .place .0
 abbrev pub textLength : TextAnswer → ℕ
 textLength (T.At p n) = n
 textLength (T.Refused r) = 0
+
+-- the sum that tells the host field text's answer
+abbrev pub textSum : TextAnswer → ℕ
+textSum a = hostForm (textNumber a) (textPlace a) (textLength a)

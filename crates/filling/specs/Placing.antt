@@ -6,6 +6,7 @@ use mathlib.Core.List.{List, [], _∷_}
 use lib.ListN.{length}
 use Rattle.records.specs.Kinds as kind
 use Rattle.records.specs.Records.{Rec}
+use Rattle.records.specs.Parents.{Lacks}
 use Rattle.paragraph.specs.View.{kids}
 
 -- what follows a record of level n is no child of it
@@ -22,11 +23,6 @@ Leaves (r ∷ rs) = (r .tag ≡ kind.layout → Stops (r .level) rs) × Leaves r
 abbrev pub Bodies : List Rec → Type 0
 Bodies [] = Unit {0}
 Bodies (r ∷ rs) = (length (r .body) < 4294967296) × Bodies rs
-
--- no record with the tag
-abbrev pub Lacks : ℕ → List Rec → Type 0
-Lacks t [] = Unit {0}
-Lacks t (r ∷ k) = (r .tag ≡ t → ⊥) × Lacks t k
 
 -- at most one record of each tag up to 70
 abbrev pub Once : List Rec → Type 0

@@ -1,5 +1,5 @@
 -- The character shapes of a paragraph, and where they start after a fill (document 01, 'Filling a field').
-use Prim.Native.Nat.{ℕ, _+_, _-_, _/_, _≤_, _<_}
+use Prim.Native.Nat.{ℕ, _+_, _-_, _/_}
 use mathlib.Core.Bool.{Bool, false, cond, _&&_, _||_}
 use mathlib.Core.List.{List, [], _∷_, _++_, map}
 use lib.Dec.{ltb, leb}
@@ -45,9 +45,3 @@ shapesAfter a b v [] = []
 shapesAfter a b v (e ∷ es) =
     cond (inside a b (e .start) && anyInside a b es) (shapesAfter a b v es)
     (startAt (moved a b v (e .start)) e ∷ shapesAfter a b v es)
-
--- what document 01 asks of starts (`acceptance`: First, Rise, Below) as a walk over the entries meets it: the next one from `low` up to but
--- not including `high`, each behind it above the one before and below `bound`
-abbrev pub Starts : ℕ → ℕ → ℕ → List Entry → Type 0
-Starts low high bound [] = Unit {0}
-Starts low high bound (e ∷ es) = (low ≤ e .start) × (e .start < high) × Starts (e .start + 1) bound bound es

@@ -92,7 +92,7 @@ unfolding textFault
 sound-fault [] e = absurd (let z : _≡_ {A = ℕ} 0 1 = cc in omega arith)
 sound-fault (u ∷ us) e = e
 
-pub record Sound (text : Option (List ℕ)) (b : List ℕ) (extended : ℕ) : Type 0 where
+pub record SoundBody (text : Option (List ℕ)) (b : List ℕ) (extended : ℕ) : Type 0 where
   pub unbroken : textBroken text ≡ false
   pub fault-none : faultAt (units b) 0 ≡ none
   pub extended-is : extended ≡ extendedCount (units b)
@@ -106,7 +106,7 @@ broken-verdict none n p e = absurd (let z : _≡_ {A = ℕ} 0 1 = cc in omega ar
 broken-verdict (some q) n p e = refl
 
 module _ (s : List ℕ) where
-  sound-by : (f : Found) (b : List ℕ) (m : ℕ) → b ≡ bytesIn (bodyFound s f) → textJudged f b ≡ judgement.Sound m → Sound (bodyFound s f) b m
+  sound-by : (f : Found) (b : List ℕ) (m : ℕ) → b ≡ bytesIn (bodyFound s f) → textJudged f b ≡ judgement.Sound m → SoundBody (bodyFound s f) b m
   unfolding judged units extendedCount tokens walk extendedIn fault
   sound-by (P.At p) b m e q =
       let v = sound-verdict (units b) (textFault (units b)) (extendedCount (units b)) m q in
@@ -126,7 +126,7 @@ module _ (s : List ℕ) where
   broken-by P.Nothing b x e q = absurd (let z : _≡_ {A = ℕ} 0 1 = cc in omega arith)
 
   module _ (f : Found) (b : List ℕ) (x : Judged) (e : b ≡ bytesIn (bodyFound s f)) (j : x ≡ textJudged f b) where
-    pub text-sound : (m : ℕ) → x ≡ judgement.Sound m → Sound (bodyFound s f) b m
+    pub text-sound : (m : ℕ) → x ≡ judgement.Sound m → SoundBody (bodyFound s f) b m
     text-sound m q = sound-by f b m e (sym j ∙ q)
 
     pub text-broken : (p : Position) → x ≡ judgement.Broken p → textBroken (bodyFound s f) ≡ true

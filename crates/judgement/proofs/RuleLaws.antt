@@ -52,7 +52,7 @@ lacks-none least number f e = rw e
 pub unwanted-there : (number : ℕ) (f : Found) (p : Record) → f ≡ P.At p → eqb number 0 ≡ unwanted number (lengthFound f)
 unwanted-there number f p e = rw e
 
-pub misfits-there : (number asked : ℕ) (f : Found) (p : Record) → f ≡ P.At p → (eqb number 0 || not (eqb (p .length) asked)) ≡ misfits number asked (lengthFound f)
+pub misfits-there : (number asked : ℕ) (f : Found) (p : Record) → f ≡ P.At p → (eqb number 0 || not (eqb (p .len) asked)) ≡ misfits number asked (lengthFound f)
 misfits-there number asked f p e = rw e
 
 -- ---- by what a judge of entries answered

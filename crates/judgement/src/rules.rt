@@ -76,11 +76,11 @@ fn misfits(number: u32, asked: u64, f: Found) -> bool
 {
     match f {
         Found::At(p) => {
-            let length = p.length as u64;
+            let len = p.len as u64;
             if number == 0 {
                 return true;
             }
-            length != asked
+            len != asked
         }
         Found::Nothing => false,
     }

@@ -30,7 +30,7 @@ fn print_record(r: Record) {
     print_part(at.0 as u64);
     print_part(r.tag as u64);
     print_part(r.level as u64);
-    print_last(r.length as u64);
+    print_last(r.len as u64);
 }
 
 fn print_refusal(r: Refusal) {

@@ -1,5 +1,4 @@
-pub mod RoomLaws
 pub mod CheckLaws
 pub mod Orders
-pub mod Pairs
+pub mod Promises
 pub mod Room

@@ -1,5 +1,4 @@
--- Demand 3 over the call fill: a sheet is accepted by check; two fills of different ids give the same sheet in both orders; where one
--- order is accepted, the other is stopped by 25 or 26 only. Buffers and their rooms are any. Assumes nothing.
+-- Fill over a stream by its definition, as the theorems over its promise (Promises) use it: two fills of different ids give the same sheet in both turns; where one turn is accepted, the other is stopped by 25 or 26 only. Assumes nothing.
 use mathlib.Core.Path.{_≡_, refl, sym, ap, _∙_}
 use mathlib.Core.Logic.{_⊎_, inl, inr}
 use Prim.Native.Nat.{ℕ, _≤_}
@@ -24,7 +23,6 @@ use Rattle.filling.proofs.AnswerLaws.{fits-not, fits-room, fits-all}
 use Rattle.filling.proofs.OrderLaws.{done, fillable-done, done-before, both-orders}
 use Rattle.filling.proofs.AcceptedLaws.{ready, layout-leaves, accepted-filled}
 use Rattle.orders.specs.Calls.{afterSection, fillOf, sheetOf, lacksRoom}
-use Rattle.orders.proofs.RoomLaws.{room-accepted}
 use Rattle.orders.proofs.CheckLaws.{Checked, checked, read-back, checks}
 
 -- ---- fill's answer, by what its search finds
@@ -63,17 +61,17 @@ fits-accepted n m room e = elim (lt-or limit n) [
 ]
 
 -- what an accepted fill of the records of an accepted section did
-pub record Filled (id : ℕ) (w : List ℕ) (rs : List Rec) (room n : ℕ) : Type 0 where
+pub record Made (id : ℕ) (w : List ℕ) (rs : List Rec) (room n : ℕ) : Type 0 where
   pub hit : Hit
   pub found : fillable id w rs ≡ one hit
   pub number : n ≡ length (encode (filled hit w rs))
   pub short : length (encode (filled hit w rs)) ≤ limit
   pub bytes : fillBytes id w rs room ≡ encode (filled hit w rs)
 
-pub was-filled : (id : ℕ) (w : List ℕ) (rs : List Rec) (room n : ℕ) → fillAnswer id w rs room ≡ A.Accepted n → Filled id w rs room n
-was-filled id w rs room n e = go (fillable id w rs) refl
+pub was-made : (id : ℕ) (w : List ℕ) (rs : List Rec) (room n : ℕ) → fillAnswer id w rs room ≡ A.Accepted n → Made id w rs room n
+was-made id w rs room n e = go (fillable id w rs) refl
   where
-    go : (o : Outcome) → fillable id w rs ≡ o → Filled id w rs room n
+    go : (o : Outcome) → fillable id w rs ≡ o → Made id w rs room n
     go (one h) q =
         let a : fits (length (encode (filled h w rs))) room ≡ A.Accepted n = sym (answer-one id w rs room h q) ∙ e in
         let f = fits-accepted (length (encode (filled h w rs))) n room a in
@@ -107,7 +105,7 @@ module _ (rs : List Rec) (a : Accepted rs) where
   leaves-of = layout-leaves rs a
 
   -- the records after an accepted fill are again those of an accepted section
-  pub accepted-after : (id : ℕ) (w : List ℕ) (room n : ℕ) → Bytes w → (f : Filled id w rs room n) → Accepted (filled (f .hit) w rs)
+  pub accepted-after : (id : ℕ) (w : List ℕ) (room n : ℕ) → Bytes w → (f : Made id w rs room n) → Accepted (filled (f .hit) w rs)
   accepted-after id w room n bw f = accepted-filled id w rs (f .hit) a (done id w rs (f .hit) (f .found)) bw (f .short)
 
   -- where the second fill is accepted after the first, it may be done before it, and both orders meet
@@ -131,19 +129,19 @@ module _ (rs : List Rec) (a : Accepted rs) where
 -- ---- the theorems, over streams
 
 -- what is known of an accepted call
-record Call (s : List ℕ) (id : ℕ) (w : List ℕ) (room n : ℕ) : Type 0 where
-  rs : List Rec
-  section : Accepted rs
-  stream : encode rs ≡ s
-  fill : Filled id w rs room n
-  sheet : sheetOf s id w room ≡ encode (filled (fill .hit) w rs)
+pub record Call (s : List ℕ) (id : ℕ) (w : List ℕ) (room n : ℕ) : Type 0 where
+  pub rs : List Rec
+  pub section : Accepted rs
+  pub stream : encode rs ≡ s
+  pub fill : Made id w rs room n
+  pub sheet : sheetOf s id w room ≡ encode (filled (fill .hit) w rs)
 
-call : (s : List ℕ) (id : ℕ) (w : List ℕ) (room n : ℕ) → Bytes s → fillOf s id w room ≡ A.Accepted n → Call s id w room n
+pub call : (s : List ℕ) (id : ℕ) (w : List ℕ) (room n : ℕ) → Bytes s → fillOf s id w room ≡ A.Accepted n → Call s id w room n
 call s id w room n bs e =
     let c = section-of s id w room n bs e in
     let k : fillAnswer id w (readAll s .recs) room ≡ A.Accepted n
     = sym (call-is (readAll s .recs) (c .accepted) id w room) ∙ ap (λ (t : List ℕ). fillOf t id w room) (c .stream) ∙ e in
-    let f = was-filled id w (readAll s .recs) room n k in
+    let f = was-made id w (readAll s .recs) room n k in
     record {
       rs = readAll s .recs;
       section = c .accepted;
@@ -152,43 +150,34 @@ call s id w room n bs e =
       sheet = ap (λ (t : List ℕ). sheetOf t id w room) (sym (c .stream)) ∙ sheet-is (readAll s .recs) (c .accepted) id w room ∙ f .bytes;
     }
 
--- a sheet is accepted by check
-pub sheet-accepted : (s : List ℕ) (id : ℕ) (w : List ℕ) (room n : ℕ) → Bytes s → Bytes w → fillOf s id w room ≡ A.Accepted n
-    → (m : ℕ) × (checkAnswer (sheetOf s id w room) ≡ A.Accepted m)
-sheet-accepted s id w room n bs bw e =
-    let c = call s id w room n bs e in (
-      length (filled (c .fill .hit) w (c .rs)),
-      ap checkAnswer (c .sheet) ∙ checks (filled (c .fill .hit) w (c .rs)) (accepted-after (c .rs) (c .section) id w room n bw (c .fill)),
-    )
-
 -- two fills, one after the other, the second over the first one's sheet
-pub record InOrder (s : List ℕ) (id : ℕ) (w : List ℕ) (id′ : ℕ) (u : List ℕ) (room room′ n n′ : ℕ) : Type 0 where
+pub record InTurn (s : List ℕ) (id : ℕ) (w : List ℕ) (id′ : ℕ) (u : List ℕ) (room room′ n n′ : ℕ) : Type 0 where
   pub first : fillOf s id w room ≡ A.Accepted n
   pub second : fillOf (sheetOf s id w room) id′ u room′ ≡ A.Accepted n′
 
 -- what the other order comes to: refused by 25 or 26, or accepted with the same sheet of the same length
-pub data Other (s : List ℕ) (id : ℕ) (w : List ℕ) (id′ : ℕ) (u : List ℕ) (room room′ n′ : ℕ) (made : List ℕ) : Type 0 where
-  first-lacks : lacksRoom (fillOf s id′ u room) ≡ true → Other s id w id′ u room room′ n′ made
+pub data OtherTurn (s : List ℕ) (id : ℕ) (w : List ℕ) (id′ : ℕ) (u : List ℕ) (room room′ n′ : ℕ) (made : List ℕ) : Type 0 where
+  first-lacks : lacksRoom (fillOf s id′ u room) ≡ true → OtherTurn s id w id′ u room room′ n′ made
   second-lacks : (m : ℕ) → fillOf s id′ u room ≡ A.Accepted m → lacksRoom (fillOf (sheetOf s id′ u room) id w room′) ≡ true
-      → Other s id w id′ u room room′ n′ made
+      → OtherTurn s id w id′ u room room′ n′ made
   accepted : (m : ℕ) → fillOf s id′ u room ≡ A.Accepted m → fillOf (sheetOf s id′ u room) id w room′ ≡ A.Accepted n′
-      → sheetOf (sheetOf s id′ u room) id w room′ ≡ made → Other s id w id′ u room room′ n′ made
+      → sheetOf (sheetOf s id′ u room) id w room′ ≡ made → OtherTurn s id w id′ u room room′ n′ made
 
 module _ (s : List ℕ) (id id′ : ℕ) (ne : id ≡ id′ → ⊥) (w u : List ℕ) (bs : Bytes s) (bw : Bytes w) (bu : Bytes u) where
   -- the second call of an order, over the records of the first one's sheet
   record Pair (room room′ n n′ : ℕ) : Type 0 where
     one : Call s id w room n
-    two : Filled id′ u (filled (one .fill .hit) w (one .rs)) room′ n′
+    two : Made id′ u (filled (one .fill .hit) w (one .rs)) room′ n′
     made : sheetOf (sheetOf s id w room) id′ u room′ ≡ encode (filled (two .hit) u (filled (one .fill .hit) w (one .rs)))
 
-  pair : (room room′ n n′ : ℕ) → InOrder s id w id′ u room room′ n n′ → Pair room room′ n n′
+  pair : (room room′ n n′ : ℕ) → InTurn s id w id′ u room room′ n n′ → Pair room room′ n n′
   pair room room′ n n′ o =
       let c = call s id w room n bs (o .first) in
       let out = filled (c .fill .hit) w (c .rs) in
       let a = accepted-after (c .rs) (c .section) id w room n bw (c .fill) in
       let k : fillAnswer id′ u out room′ ≡ A.Accepted n′
       = sym (call-is out a id′ u room′) ∙ ap (λ (t : List ℕ). fillOf t id′ u room′) (sym (c .sheet)) ∙ o .second in
-      let f = was-filled id′ u out room′ n′ k in
+      let f = was-made id′ u out room′ n′ k in
       record {
         one = c;
         two = f;
@@ -199,7 +188,7 @@ module _ (s : List ℕ) (id id′ : ℕ) (ne : id ≡ id′ → ⊥) (w u : List
   module _ (rs : List Rec) (a : Accepted rs) (h k : Hit) (t : Turned rs a id id′ w u h k) (made : List ℕ) (n′ : ℕ)
       (is : made ≡ encode (filled k u (filled h w rs))) (long : n′ ≡ length (encode (filled k u (filled h w rs)))) (r r′ : ℕ) where
     second-turn : (m : ℕ) → m ≡ length (encode (filled (t .first) u rs)) → fillOf (encode rs) id′ u r ≡ A.Accepted m
-        → sheetOf (encode rs) id′ u r ≡ encode (filled (t .first) u rs) → Accepted (filled (t .first) u rs) → Other (encode rs) id w id′ u r r′ n′ made
+        → sheetOf (encode rs) id′ u r ≡ encode (filled (t .first) u rs) → Accepted (filled (t .first) u rs) → OtherTurn (encode rs) id w id′ u r r′ n′ made
     second-turn m e f g b =
         let out = filled (t .first) u rs in
         let q : fillOf (sheetOf (encode rs) id′ u r) id w r′ ≡ fits (length (encode (filled (t .second) w out))) r′
@@ -212,7 +201,7 @@ module _ (s : List ℕ) (id id′ : ℕ) (ne : id ≡ id′ → ⊥) (w u : List
               ∙ ap encode (sym (t .same)) ∙ sym is)
         ]
 
-    other-order : Other (encode rs) id w id′ u r r′ n′ made
+    other-order : OtherTurn (encode rs) id w id′ u r r′ n′ made
     other-order =
         let out = filled (t .first) u rs in
         let q : fillOf (encode rs) id′ u r ≡ fits (length (encode out)) r = call-is rs a id′ u r ∙ answer-one id′ u rs r (t .first) (t .first-is) in
@@ -222,27 +211,18 @@ module _ (s : List ℕ) (id id′ : ℕ) (ne : id ≡ id′ → ⊥) (w u : List
               (accepted-filled id′ u rs (t .first) a (done id′ u rs (t .first) (t .first-is)) bu (l .1))
         ]
 
-  -- demand 3: where one order is accepted, the other is refused by 25 or 26 only, or gives the same sheet; whatever the rooms
-  pub orders : (room room′ n n′ r r′ : ℕ) → InOrder s id w id′ u room room′ n n′
-      → Other s id w id′ u r r′ n′ (sheetOf (sheetOf s id w room) id′ u room′)
-  orders room room′ n n′ r r′ o =
+  -- where one turn is accepted, the other is refused by 25 or 26 only, or gives the same sheet; whatever the rooms
+  pub turns : (room room′ n n′ r r′ : ℕ) → InTurn s id w id′ u room room′ n n′
+      → OtherTurn s id w id′ u r r′ n′ (sheetOf (sheetOf s id w room) id′ u room′)
+  turns room room′ n n′ r r′ o =
       let p = pair room room′ n n′ o in
       let t = turned (p .one .rs) (p .one .section) id id′ ne w u (p .one .fill .hit) (p .two .hit) (p .one .fill .found) (p .two .found) in
       carry (encode (p .one .rs)) (p .one .stream) (sheetOf (sheetOf s id w room) id′ u room′)
       (other-order (p .one .rs) (p .one .section) (p .one .fill .hit) (p .two .hit) t (sheetOf (sheetOf s id w room) id′ u room′) n′ (p .made) (p .two .number) r r′)
     where
-      carry : (x : List ℕ) → x ≡ s → (made : List ℕ) → Other x id w id′ u r r′ n′ made → Other s id w id′ u r r′ n′ made
+      carry : (x : List ℕ) → x ≡ s → (made : List ℕ) → OtherTurn x id w id′ u r r′ n′ made → OtherTurn s id w id′ u r r′ n′ made
       carry x e made c = rw e at c
 
-  accepted-room : (x : Answer) (m : ℕ) → x ≡ A.Accepted m → lacksRoom x ≡ true → ⊥
-  accepted-room x m e l = let f : false ≡ lacksRoom x = room-accepted x m e in let z : _≡_ {A = ℕ} 0 1 = cc in omega arith
-
-  -- so, where both orders are accepted, the sheets are equal and so are their lengths
-  pub same-sheet : (room room′ n n′ r r′ m m′ : ℕ) → InOrder s id w id′ u room room′ n n′ → InOrder s id′ u id w r r′ m m′
-      → (sheetOf (sheetOf s id′ u r) id w r′ ≡ sheetOf (sheetOf s id w room) id′ u room′) × (n′ ≡ m′)
-  same-sheet room room′ n n′ r r′ m m′ o o′ =
-      elim (orders room room′ n n′ r r′ o) [
-        | first-lacks l ↦ absurd (accepted-room (fillOf s id′ u r) m (o′ .first) l)
-        | second-lacks k e l ↦ absurd (accepted-room (fillOf (sheetOf s id′ u r) id w r′) m′ (o′ .second) l)
-        | accepted k e f g ↦ (g, (let q = o′ .second in cc))
-      ]
+  -- the second sheet is as long as its fill tells
+  pub second-length : (room room′ n n′ : ℕ) → InTurn s id w id′ u room room′ n n′ → n′ ≡ length (sheetOf (sheetOf s id w room) id′ u room′)
+  second-length room room′ n n′ o = let p = pair room room′ n n′ o in p .two .number ∙ sym (ap length (p .made))

@@ -25,6 +25,7 @@ use Rattle.filling.proofs.AnswerLaws.{fits-not, fits-all}
 use Rattle.filling.proofs.OrderLaws.{done}
 use Rattle.filling.proofs.LengthLaws.{sheet-long}
 use Rattle.orders.specs.Calls.{afterSection, fillOf}
+use Rattle.orders.specs.Promise.{Filled}
 use Rattle.orders.proofs.CheckLaws.{checked}
 use Rattle.orders.proofs.Orders.{answer-one, answer-refused, fits-accepted}
 
@@ -88,29 +89,29 @@ comes s id w room bs = go (checkAnswer s) refl
     go (A.Refused r) q =
         before r (ap (λ (c : Answer). afterSection c (fillAnswer id w rs room)) q) (let b = below-sixteen s in omega (arith, ap number q))
 
--- ---- the theorems
+-- ---- the theorems, over fill's promise
 
-module _ (s : List ℕ) (id : ℕ) (w : List ℕ) (room : ℕ) (bs : Bytes s) where
+module _ (s : List ℕ) (id : ℕ) (w out : List ℕ) (r : Answer) (out′ : List ℕ) (bs : Bytes s) (k : Filled s id w out r out′) where
   -- the length that an accepted fill tells
-  pub accepted-length : (n : ℕ) → fillOf s id w room ≡ A.Accepted n → n ≤ length s + length w + 4
-  accepted-length n e = elim (comes s id w room bs) [
-    | before r q b ↦ absurd (let z : _≡_ {A = ℕ} 0 1 = cc in omega arith)
-    | made m q l ↦ omega (arith, fits-accepted m n room (sym q ∙ e) .0, l)
+  pub accepted-length : (n : ℕ) → r ≡ A.Accepted n → n ≤ length s + length w + 4
+  accepted-length n e = elim (comes s id w (length out) bs) [
+    | before x q b ↦ absurd (let y = sym (k .answer) ∙ e in let z : _≡_ {A = ℕ} 0 1 = cc in omega arith)
+    | made m q l ↦ omega (arith, fits-accepted m n (length out) (sym q ∙ sym (k .answer) ∙ e) .0, l)
   ]
 
   -- 26: the buffer was shorter than that
-  pub short-buffer : number (fillOf s id w room) ≡ 26 → room < length s + length w + 4
-  short-buffer e = elim (comes s id w room bs) [
-    | before r q b ↦ absurd (omega (arith, ap number q, b))
-    | made m q l ↦ elim (lt-or room m) [
+  pub short-buffer : number r ≡ 26 → length out < length s + length w + 4
+  short-buffer e = elim (comes s id w (length out) bs) [
+    | before x q b ↦ absurd (omega (arith, ap number (k .answer ∙ q), b, e))
+    | made m q l ↦ elim (lt-or (length out) m) [
       | inl h ↦ omega (arith, l)
       | inr h ↦ absurd (elim (lt-or limit m) [
-        | inl k ↦ omega (arith, ap number (q ∙ fits-not m room k))
-        | inr k ↦ omega (arith, ap number (q ∙ fits-all m room k h))
+        | inl j ↦ omega (arith, e, ap number (k .answer ∙ q ∙ fits-not m (length out) j))
+        | inr j ↦ omega (arith, e, ap number (k .answer ∙ q ∙ fits-all m (length out) j h))
       ])
     ]
   ]
 
   -- so a buffer of that length never gets 26
-  pub enough-room : length s + length w + 4 ≤ room → number (fillOf s id w room) ≡ 26 → ⊥
+  pub enough-room : length s + length w + 4 ≤ length out → number r ≡ 26 → ⊥
   enough-room h e = omega (arith, short-buffer e)

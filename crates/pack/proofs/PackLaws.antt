@@ -39,13 +39,13 @@ module _ (count : ℕ) (t l p q bytes out : List ℕ) where
 -- ---- the host's form
 
 abbrev Formed : Packed → ℕ → Type 0
-Formed a h = h ≡ hostForm (number a) (place a) 0
+Formed a h = h ≡ hostForm (number a) (placeBits (place a)) 0
 
-pub host-length : (a : Packed) (n b : ℕ) → a ≡ P.Length n → b ≡ placeBits n → 256 * b ≡ hostForm (number a) (place a) 0
+pub host-length : (a : Packed) (n b : ℕ) → a ≡ P.Length n → b ≡ placeBits n → 256 * b ≡ hostForm (number a) (placeBits (place a)) 0
 unfolding hostForm
 host-length a n b e f = subst (λ (x : Packed). Formed x (256 * b)) (sym e) (omega arith)
 
 pub host-refused : (a : Packed) (fault : Fault) (i : Index) (m b : ℕ) → a ≡ P.Refused fault i → m ≡ numberOf fault → b ≡ placeBits (i .0)
-    → m + 256 * b ≡ hostForm (number a) (place a) 0
+    → m + 256 * b ≡ hostForm (number a) (placeBits (place a)) 0
 unfolding hostForm
 host-refused a fault i m b e g f = subst (λ (x : Packed). Formed x (m + 256 * b)) (sym e) (omega arith)

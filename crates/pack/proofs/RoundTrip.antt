@@ -23,7 +23,7 @@ use Rattle.pack.proofs.RoundLaws.{rowsOf, table-of, longer, length-plac
 
 -- ---- read, then pack
 
-module _ (s t₀ l₀ p₀ q₀ t l p q out : List ℕ) (n : ℕ) (bytes : Bytes s) (read : Promised s t₀ l₀ p₀ q₀ (A.Accepted n) t l p q) where
+module _ (s t₀ l₀ p₀ q₀ t l p q out : List ℕ) (n : ℕ) (bytes : Bytes s) (read : Promised readAnswer s t₀ l₀ p₀ q₀ (A.Accepted n) t l p q) where
   stream-is : IsStream s (shortest t₀ l₀ p₀ q₀) n (readAll s .recs)
   stream-is = accepted-stream s (shortest t₀ l₀ p₀ q₀) n bytes (sym (read .answer))
 
@@ -106,7 +106,7 @@ module _ (count : ℕ) (t l p q bytes out : List ℕ) (k : ℕ) (out′ : List �
   read-recs : readAll (take k out′) .recs ≡ recs
   read-recs = ap (λ (x : List ℕ). readAll x .recs) wrote ∙ ap (λ (x : Read). x .recs) (stream-records (encode recs) recs (is-stream .encodes))
 
-  pub pack-then-read : (r : Answer) → Promised (take k out′) t₀ l₀ p₀ q₀ r t′ l′ p′ q′
+  pub pack-then-read : (r : Answer) → Promised readAnswer (take k out′) t₀ l₀ p₀ q₀ r t′ l′ p′ q′
       → ReadsBack count t l p q bytes (take k out′) r t′ l′ p′ q′
   pack-then-read r read =
       let answer : r ≡ A.Accepted count

@@ -15,7 +15,7 @@ use Rattle.records.specs.declared.fault.Fault.the-variants as F
 use Rattle.records.specs.Records.{limit, leadOf, size}
 use Rattle.records.proofs.HeaderLaws.{length-part}
 use Rattle.pack.specs.Rows.{Row, rowOf, rows, pointed}
-use Rattle.pack.specs.Packing.{refusedAt, verdict, rowByRow, closing, Sound}
+use Rattle.pack.specs.Packing.{refusedAt, verdict, rowByRow, closing, SoundRow}
 use Rattle.pack.specs.declared.judge.Verdict.{Verdict}
 use Rattle.pack.specs.declared.judge.Verdict.the-variants as Ver
 use Rattle.pack.specs.declared.judge.Packed.{Packed}
@@ -42,7 +42,7 @@ by-cond A true x y f g = f tt
 by-cond A false x y f g = g tt
 
 abbrev SoundIf : ℕ → ℕ → Row → Verdict → Type 0
-SoundIf cap lent r Ver.Sound = Sound cap lent r
+SoundIf cap lent r Ver.Sound = SoundRow cap lent r
 SoundIf cap lent r (Ver.Faulty f) = Unit {0}
 
 sound-if : (cap lent : ℕ) (r : Row) → SoundIf cap lent r (verdict cap lent r)
@@ -57,7 +57,7 @@ sound-if cap lent r =
     (λ c.
     by-cond A (ltb 1023 (r .level)) _ _ (λ _. tt)
     (λ d.
-    by-cond A (ltb lent (r .place + r .length)) _ _ (λ _. tt)
+    by-cond A (ltb lent (r .place + r .len)) _ _ (λ _. tt)
     (λ e.
     record {
       tag-low = nltb→le _ _ a;
@@ -67,10 +67,10 @@ sound-if cap lent r =
       inside = nltb→le _ _ e;
     })))))
 
-pub sound : (cap lent : ℕ) (r : Row) → verdict cap lent r ≡ Ver.Sound → Sound cap lent r
+pub sound : (cap lent : ℕ) (r : Row) → verdict cap lent r ≡ Ver.Sound → SoundRow cap lent r
 sound cap lent r e = subst (SoundIf cap lent r) e (sound-if cap lent r)
 
-pub sound-verdict : (cap lent : ℕ) (r : Row) → Sound cap lent r → verdict cap lent r ≡ Ver.Sound
+pub sound-verdict : (cap lent : ℕ) (r : Row) → SoundRow cap lent r → verdict cap lent r ≡ Ver.Sound
 unfolding verdict
 sound-verdict cap lent r s =
     simp (
@@ -78,7 +78,7 @@ sound-verdict cap lent r s =
       le-ltb 1023 (r .tag) (s .tag-high),
       le-ltb cap (r .level) (s .level-cap),
       le-ltb 1023 (r .level) (s .level-high),
-      le-ltb lent (r .place + r .length) (s .inside),
+      le-ltb lent (r .place + r .len) (s .inside),
     )
 
 -- ---- row by row
@@ -123,6 +123,6 @@ closing-capped room n =
 
 -- ---- the stream of rows
 
-pub size-pointed : (bytes : List ℕ) (r : Row) → r .place + r .length ≤ length bytes → size (pointed bytes r) ≡ leadOf (r .length) + r .length
+pub size-pointed : (bytes : List ℕ) (r : Row) → r .place + r .len ≤ length bytes → size (pointed bytes r) ≡ leadOf (r .len) + r .len
 unfolding size
-size-pointed bytes r h = simp (length-part bytes (r .place) (r .length) h)
+size-pointed bytes r h = simp (length-part bytes (r .place) (r .len) h)

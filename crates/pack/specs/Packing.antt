@@ -27,7 +27,7 @@ verdict cap lent r =
     (cond (ltb 1023 (r .tag)) (Ver.Faulty F.TagOutside)
     (cond (ltb cap (r .level)) (Ver.Faulty F.LevelRule)
     (cond (ltb 1023 (r .level)) (Ver.Faulty F.LevelRule)
-    (cond (ltb lent (r .place + r .length)) (Ver.Faulty F.BodyPastEnd) Ver.Sound))))
+    (cond (ltb lent (r .place + r .len)) (Ver.Faulty F.BodyPastEnd) Ver.Sound))))
 
 -- record by record from index i on, each level at most one above the one before; `after` where none has a fault
 unfoldable pub rowByRow : ℕ → ℕ → ℕ → List Row → Packed → Packed
@@ -57,16 +57,16 @@ leaves (P.Length n) rs out = written (encode rs) out
 leaves (P.Refused f i) rs out = out
 
 -- what document 01 asks of a row whose level may be at most cap, over `lent` bytes
-pub record Sound (cap lent : ℕ) (r : Row) : Type 0 where
+pub record SoundRow (cap lent : ℕ) (r : Row) : Type 0 where
   pub tag-low : 16 ≤ r .tag
   pub tag-high : r .tag ≤ 1023
   pub level-cap : r .level ≤ cap
   pub level-high : r .level ≤ 1023
-  pub inside : r .place + r .length ≤ lent
+  pub inside : r .place + r .len ≤ lent
 
 abbrev pub SoundRows : ℕ → ℕ → List Row → Type 0
 SoundRows cap lent [] = Unit {0}
-SoundRows cap lent (r ∷ rs) = Sound cap lent r × SoundRows (r .level + 1) lent rs
+SoundRows cap lent (r ∷ rs) = SoundRow cap lent r × SoundRows (r .level + 1) lent rs
 
 -- when pack accepts, and with which length: the reader's statement
 pub record Accepts (count : ℕ) (tags levels places lengths bytes : List ℕ) (room n : ℕ) : Type 0 where

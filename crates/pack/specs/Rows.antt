@@ -13,10 +13,10 @@ pub record Row : Type 0 where
   pub tag : ℕ
   pub level : ℕ
   pub place : ℕ
-  pub length : ℕ
+  pub len : ℕ
 
 abbrev pub rowOf : ℕ → ℕ → ℕ → ℕ → Row
-rowOf tag level place length = record { tag = tag; level = level; place = place; length = length }
+rowOf tag level place len = record { tag = tag; level = level; place = place; len = len }
 
 -- the first n rows of the four lists
 unfoldable pub rows : ℕ → List ℕ → List ℕ → List ℕ → List ℕ → List Row
@@ -26,7 +26,7 @@ rows (suc n) t l p q =
 
 -- the record that a row points to: its body is the lent bytes from its place on
 abbrev pub pointed : List ℕ → Row → Rec
-pointed bytes r = recordOf (r .tag) (r .level) (take (r .length) (drop (r .place) bytes))
+pointed bytes r = recordOf (r .tag) (r .level) (take (r .len) (drop (r .place) bytes))
 
 abbrev pub records : List ℕ → List Row → List Rec
 records bytes rs = map (pointed bytes) rs
@@ -34,4 +34,4 @@ records bytes rs = map (pointed bytes) rs
 -- every body lies in the lent bytes
 abbrev pub Inside : ℕ → List Row → Type 0
 Inside lent [] = Unit {0}
-Inside lent (r ∷ rs) = (r .place + r .length ≤ lent) × Inside lent rs
+Inside lent (r ∷ rs) = (r .place + r .len ≤ lent) × Inside lent rs

@@ -7,7 +7,7 @@ use records::bits;
 ghost use mathlib.Core.Path.{_≡_};
 ghost use Prim.Native.Nat.{_+_, _≤_, _<_, min};
 ghost use lib.ListN.{length};
-ghost use Rattle.records.specs.Answers.{hostForm};
+ghost use Rattle.records.specs.Answers.{placeBits, hostForm};
 ghost use Rattle.records.specs.Records.{leadOf};
 ghost use Rattle.records.specs.Table.{shortest};
 ghost use Rattle.pack.specs.Rows.{rows, rowOf};
@@ -25,7 +25,7 @@ pub enum Packed {
 impl Packed {
     // The host's form: the number, plus 256 times the index or the length that stands in its column for 0.
     pub fn host(self) -> u64
-        ensures { λ r. ⌜ r ≡ hostForm (number self) (place self) 0 ⌝ }
+        ensures { λ r. ⌜ r ≡ hostForm (number self) (placeBits (place self)) 0 ⌝ }
     {
         match self {
             Packed::Length(n) => 256 * bits(n),
@@ -42,9 +42,9 @@ pub enum Verdict {
 
 // Widens to an index or a length.
 // A row whose level may be at most cap, over `lent` bytes: 5, 6, 4.
-fn row(tag: u32, level: u32, place: Offset, length: usize, cap: u32, lent: usize) -> Verdict
-    requires { ⌜ (place .0 < 4294967296) × (length < 4294967296) ⌝ }
-    ensures { λ r. ⌜ r ≡ verdict cap lent (rowOf tag level (place .0) length) ⌝ }
+fn row(tag: u32, level: u32, place: Offset, len: usize, cap: u32, lent: usize) -> Verdict
+    requires { ⌜ (place .0 < 4294967296) × (len < 4294967296) ⌝ }
+    ensures { λ r. ⌜ r ≡ verdict cap lent (rowOf tag level (place .0) len) ⌝ }
 {
     if tag < 16 {
         return Verdict::Faulty(Fault::TagOutside);
@@ -58,18 +58,18 @@ fn row(tag: u32, level: u32, place: Offset, length: usize, cap: u32, lent: usize
     if 1023 < level {
         return Verdict::Faulty(Fault::LevelRule);
     }
-    if lent < place.0 + length {
+    if lent < place.0 + len {
         return Verdict::Faulty(Fault::BodyPastEnd);
     }
     Verdict::Sound
 }
 
 // A total with one more record; what is over the limit stays one over it, so that no sum of overlapping bodies wraps.
-fn grown(total: usize, length: usize) -> usize
-    requires { ⌜ (total ≤ 16777217) × (length < 4294967296) ⌝ }
-    ensures { λ r. ⌜ (r ≡ min 16777217 (total + (leadOf length + length))) × (r ≤ 16777217) ⌝ }
+fn grown(total: usize, len: usize) -> usize
+    requires { ⌜ (total ≤ 16777217) × (len < 4294967296) ⌝ }
+    ensures { λ r. ⌜ (r ≡ min 16777217 (total + (leadOf len + len))) × (r ≤ 16777217) ⌝ }
 {
-    let more = total + lead(length) + length;
+    let more = total + lead(len) + len;
     if 16777217 < more { 16777217 } else { more }
 }
 
@@ -110,12 +110,12 @@ fn judge_rows(
     let mut total: usize = 0;
     while i < count {
         let level = levels[i];
-        let length = wide(lengths[i]);
+        let len = wide(lengths[i]);
         let place = Offset(wide(places[i]));
-        match row(tags[i], level, place, length, cap, bytes.len()) {
+        match row(tags[i], level, place, len, cap, bytes.len()) {
             Verdict::Sound => {
                 cap = level + 1;
-                total = grown(total, length);
+                total = grown(total, len);
                 i += 1;
             }
             Verdict::Faulty(fault) => {

@@ -8,10 +8,10 @@ ghost use Rattle.records.specs.Records.{leadOf, headerWord, headerOf, encodeOne
 ghost use Rattle.pack.specs.Rows.{recordOf};
 
 // How many bytes a header takes before a body of this length.
-pub fn lead(length: usize) -> usize
-    ensures { λ r. ⌜ (r ≡ leadOf length) × (r ≤ 8) ⌝ }
+pub fn lead(len: usize) -> usize
+    ensures { λ r. ⌜ (r ≡ leadOf len) × (r ≤ 8) ⌝ }
 {
-    if 4095 <= length { 8 } else { 4 }
+    if 4095 <= len { 8 } else { 4 }
 }
 
 // The 32 bits of a header.
@@ -23,16 +23,16 @@ fn word(tag: u32, level: u32, size: u32) -> u32
 }
 
 // Writes the header of a body of this length at the front of out; where there is no room nothing is written.
-pub fn put_header(out: &mut [u8], tag: u32, level: u32, length: usize)
-    ensures { λ _. ⌜ now (out .exit) ≡ laid (headerOf tag level length) (now (out .entry)) ⌝ }
+pub fn put_header(out: &mut [u8], tag: u32, level: u32, len: usize)
+    ensures { λ _. ⌜ now (out .exit) ≡ laid (headerOf tag level len) (now (out .entry)) ⌝ }
 {
-    if length < 4095 {
-        put32(out, word(tag, level, length as u32));
+    if len < 4095 {
+        put32(out, word(tag, level, len as u32));
         return;
     }
     if 8 <= out.len() {
         put32(out, word(tag, level, 4095));
-        put32(&mut out[4..], (length % 4294967296) as u32);
+        put32(&mut out[4..], (len % 4294967296) as u32);
     }
 }
 

@@ -81,7 +81,7 @@ module _ (r : Rec) (k : List Rec) where
 
 -- p is the record with the tag, and its bytes are the body
 record Met (s : List ℕ) (n tag at : ℕ) (p : Record) : Type 0 where
-  body-end : p .body .0 + p .length ≡ p .next .0
+  body-end : p .body .0 + p .len ≡ p .next .0
   inside : p .next .0 ≤ length s
   child-is : child tag (kids n (recordsIn (drop at s))) ≡ some (bodyOf s p)
 
@@ -142,7 +142,7 @@ module _ (s : List ℕ) (bs : Bytes s) (n tag : ℕ) where
 
   length-if : (at : ℕ) (f : Found) → MetIf s n tag at f → lengthFound f ≡ lengthOf (child tag (kids n (recordsIn (drop at s))))
   length-if at (P.At p) k =
-      ap some (sym (length-take-le (p .length) (drop (p .body .0) s) (omega (arith, length-drop (p .body .0) s, k .body-end, k .inside))))
+      ap some (sym (length-take-le (p .len) (drop (p .body .0) s) (omega (arith, length-drop (p .body .0) s, k .body-end, k .inside))))
       ∙ ap lengthOf (sym (k .child-is))
   length-if at P.Nothing k = ap lengthOf (sym k)
 

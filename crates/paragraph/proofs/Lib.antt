@@ -1,7 +1,9 @@
 pub mod ViewLaws
+pub mod ChildLaws
 pub mod StreamLaws
 pub mod FindLaws
 pub mod BodyLaws
 pub mod OwningLaws
 pub mod PartLaws
 pub mod FieldLaws
+pub mod NearLaws

@@ -30,8 +30,8 @@ pub record Owning (s : List ℕ) (n k at : ℕ) (p : Record) : Type 0 where
   pub from : at ≤ p .at .0
   pub least : p .at .0 + 4 ≤ p .next .0
   pub inside : p .next .0 ≤ length s
-  pub body-is : p .body .0 ≡ p .at .0 + leadOf (p .length)
-  pub body-end : p .body .0 + p .length ≡ p .next .0
+  pub body-is : p .body .0 ≡ p .at .0 + leadOf (p .len)
+  pub body-end : p .body .0 + p .len ≡ p .next .0
   pub headers-are : drop k (headers s n at) ≡ bodyOf s p ∷ headers s n (p .next .0)
   pub found : foundIn n 71 k at (recordsIn (drop at s)) ≡ P.At p
   pub later : (i j : ℕ) → i ≡ suc (k + j) → foundIn n 71 i at (recordsIn (drop at s)) ≡ foundIn n 71 j (p .next .0) (recordsIn (drop (p .next .0) s))

@@ -10,7 +10,7 @@ use borrow.Author.Tests.{ltb-true, ltb-false}
 use lib.ListN.{length, take, drop, length-drop, length-append}
 use lib.Seq.{drop-drop, drop-at}
 use Rattle.numbers.specs.Little.{Bytes}
-use Rattle.records.specs.Records.{Rec, leadOf, encodeOne, encode, size, Obeys, Lawful}
+use Rattle.records.specs.Records.{Rec, leadOf, encodeOne, encode, size, RecordObeys, Lawful}
 use Rattle.records.specs.Reading.{Stands, whole, fault, standsAt, recordAt, aheadBy, aheadOf, readFrom, readAll}
 use Rattle.records.specs.declared.fault.Fault.{Fault}
 use Rattle.records.specs.declared.header.Record.{Record}
@@ -98,11 +98,11 @@ pub record Read (s : List ℕ) (at : ℕ) (r : Record) : Type 0 where
   pub is : r ≡ recordAt at rec
   pub tag-is : r .tag ≡ rec .tag
   pub level-is : r .level ≡ rec .level
-  pub length-is : r .length ≡ length (rec .body)
+  pub length-is : r .len ≡ length (rec .body)
   pub next-is : r .next .0 ≡ at + size rec
-  pub body-end : r .body .0 + r .length ≡ r .next .0
+  pub body-end : r .body .0 + r .len ≡ r .next .0
   pub least : 4 ≤ size rec
-  pub body-is : take (r .length) (drop (r .body .0) s) ≡ rec .body
+  pub body-is : take (r .len) (drop (r .body .0) s) ≡ rec .body
   pub records : recordsIn (drop at s) ≡ rec ∷ recordsIn (drop (r .next .0) s)
   pub stands : Stood s at rec
 
@@ -138,7 +138,7 @@ none-at s at x e n = none-by s at (ltb at (length s)) (standsAt 1023 (drop at s)
 -- ---- the records of a whole stream
 
 -- a level has ten bits
-any-level : {cap : ℕ} {r : Rec} → Obeys cap r → Obeys 1023 r
+any-level : {cap : ℕ} {r : Rec} → RecordObeys cap r → RecordObeys 1023 r
 any-level o =
     record { tag-low = o .tag-low; tag-high = o .tag-high; level-cap = omega (arith, o .level-high); level-high = o .level-high; body-fits = o .body-fits }
 

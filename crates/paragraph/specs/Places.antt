@@ -50,11 +50,11 @@ foundIn n tag nth at (r ∷ rs) =
 
 -- a search's result by the bytes: the length of the body, and the body
 abbrev pub lengthFound : Found → Option ℕ
-lengthFound (P.At p) = some (p .length)
+lengthFound (P.At p) = some (p .len)
 lengthFound P.Nothing = none
 
 abbrev pub bodyOf : List ℕ → Record → List ℕ
-bodyOf s p = take (p .length) (drop (p .body .0) s)
+bodyOf s p = take (p .len) (drop (p .body .0) s)
 
 abbrev pub bodyFound : List ℕ → Found → Option (List ℕ)
 bodyFound s (P.At p) = some (bodyOf s p)
@@ -62,7 +62,7 @@ bodyFound s P.Nothing = none
 
 -- it is within the stream
 abbrev pub Inside : List ℕ → Found → Type 0
-Inside s (P.At p) = p .body .0 + p .length ≤ length s
+Inside s (P.At p) = p .body .0 + p .len ≤ length s
 Inside s P.Nothing = Unit {0}
 
 -- the four records that a paragraph has at most one of, and how many control headers it has

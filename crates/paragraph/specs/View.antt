@@ -6,6 +6,7 @@ use mathlib.Core.List.{List, [], _∷_}
 use lib.Dec.{ltb, leb, eqb}
 use Rattle.records.specs.Kinds as kind
 use Rattle.records.specs.Records.{Rec}
+use Rattle.records.specs.Parents.{keepIf}
 use Rattle.paragraph.specs.declared.view.Side.{Side}
 use Rattle.paragraph.specs.declared.view.Side.the-variants as S
 
@@ -24,11 +25,17 @@ unfoldable pub kids : ℕ → List Rec → List Rec
 kids n [] = []
 kids n (r ∷ rs) = keep (side n (r .tag) (r .level)) r (kids n rs)
 
+-- those of some records that a paragraph owns: tags 67 to 71
+unfoldable pub ownedOf : List Rec → List Rec
+ownedOf [] = []
+ownedOf (r ∷ rs) = keepIf (leb kind.text (r .tag) && leb (r .tag) kind.controlHeader) r (ownedOf rs)
+
 pub record View : Type 0 where
   pub head : List ℕ
   pub own : List Rec
 
--- the view of a paragraph header r, before the records rs
+-- the view of a paragraph header r, before the records rs: of the records whose parent is r it owns those with tags 67 to 71 (`kids-are` and
+-- `view-exactly` in proofs/ChildLaws.antt)
 unfoldable pub view : Rec → List Rec → View
 view r rs = record { head = r .body; own = kids (suc (r .level)) rs }
 

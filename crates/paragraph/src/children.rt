@@ -123,7 +123,7 @@ pub fn body<'a>(s: &'a [u8], r: Record) -> &'a [u8]
     ensures { λ b. ⌜ now b ≡ bodyOf (now (s .entry)) r ⌝ }
 {
     let from = r.body;
-    part(s, from.0, r.length)
+    part(s, from.0, r.len)
 }
 
 // The bytes of a body; an absent record has none.

@@ -1,17 +1,21 @@
--- A read that answers a tells a. Assumes nothing.
-use Prim.Native.Nat.{ℕ}
-use mathlib.Core.Path.{_≡_, ap, subst, _∙_}
+-- A read that keeps its promise tells its answer in full, where every place of that is within the limit. Assumes nothing.
+use Prim.Native.Nat.{ℕ, _≤_}
+use mathlib.Core.Path.{_≡_, sym, ap, _∙_, subst}
 use mathlib.Core.List.{List}
-use Rattle.records.specs.Answers.{hostForm, number, place}
-use Rattle.records.specs.Reading.{readAll}
-use Rattle.records.specs.Table.{entered, Table}
+use Rattle.records.specs.Records.{limit}
+use Rattle.records.specs.Answers.{placeBits, hostForm, number, place}
+use Rattle.records.specs.Table.{shortest}
+use Rattle.records.specs.Promise.{Promised}
 use Rattle.records.specs.declared.fault.Answer.{Answer}
+use Rattle.records.proofs.AnswerLaws.{in-full}
 use Rattle.probe.specs.Told.{Told}
 
-pub tells : (a x : Answer) (s t t′ l l′ p p′ n n′ : List ℕ) (told : ℕ) → x ≡ a → told ≡ hostForm (number x) (place x) 0
-    → Table (entered x (readAll s .recs)) t t′ l l′ p p′ n n′ → Told a s t t′ l l′ p p′ n n′ told
-tells a x s t t′ l l′ p p′ n n′ told e f k =
-    record {
-      form = f ∙ ap (λ (y : Answer). hostForm (number y) (place y) 0) e;
-      table = subst (λ (y : Answer). Table (entered y (readAll s .recs)) t t′ l l′ p p′ n n′) e k;
-    }
+module _ (answers : List ℕ → ℕ → Answer) {s t l p n : List ℕ} {x : Answer} {told : ℕ} {t′ l′ p′ n′ : List ℕ} where
+  pub tells : Promised answers s t l p n x t′ l′ p′ n′ → told ≡ hostForm (number x) (placeBits (place x)) 0
+      → ((room : ℕ) → place (answers s room) ≤ limit) → Told answers s t l p n told t′ l′ p′ n′
+  tells k e near =
+      record {
+        answer = x;
+        promised = k;
+        sum = e ∙ ap (λ (q : ℕ). hostForm (number x) q 0) (in-full (subst (λ (a : Answer). place a ≤ limit) (sym (k .answer)) (near (shortest t l p n))));
+      }

@@ -1,14 +1,23 @@
--- A pack that keeps its promise tells its answer. Assumes nothing.
+-- A pack that keeps its promise tells its answer, an accepted length in full. Assumes nothing.
 use Prim.Native.Nat.{ℕ}
-use mathlib.Core.Path.{_≡_, ap, _∙_}
+use mathlib.Core.Path.{_≡_, refl, sym, ap, _∙_}
 use mathlib.Core.List.{List}
-use Rattle.records.specs.Answers.{hostForm}
+use lib.ListN.{length}
+use Rattle.records.specs.Answers.{placeBits, hostForm}
+use Rattle.records.proofs.AnswerLaws.{in-full}
 use Rattle.pack.specs.Packing.{number, place}
 use Rattle.pack.specs.Promise.{Packs}
 use Rattle.pack.specs.declared.judge.Packed.{Packed}
-use Rattle.probe.specs.ToldPack.{ToldPack}
+use Rattle.pack.specs.declared.judge.Packed.the-variants as P
+use Rattle.pack.proofs.Reader.{accepted}
+use Rattle.probe.specs.ToldPack.{packSum, ToldPack}
 
-pub tells-pack : (count : ℕ) (t l p q bytes out out′ : List ℕ) (a : Packed) (told : ℕ) → Packs count t l p q bytes out a out′
-    → told ≡ hostForm (number a) (place a) 0 → ToldPack count t l p q bytes out out′ told
-tells-pack count t l p q bytes out out′ a told k f =
-    record { form = f ∙ ap (λ (x : Packed). hostForm (number x) (place x) 0) (k .answer-is); buffer = k .out-is }
+module _ {count : ℕ} {t l p q bytes out out′ : List ℕ} where
+  sum-of : (a : Packed) → Packs count t l p q bytes out a out′ → hostForm (number a) (placeBits (place a)) 0 ≡ packSum a
+  sum-of (P.Length n) k =
+      ap (λ (x : ℕ). hostForm 0 x 0) (in-full (accepted count t l p q bytes (length out) n (sym (k .answer-is)) .limited))
+  sum-of (P.Refused f i) k = refl
+
+  pub tells-pack : {a : Packed} {told : ℕ} → Packs count t l p q bytes out a out′ → told ≡ hostForm (number a) (placeBits (place a)) 0
+      → ToldPack count t l p q bytes out told out′
+  tells-pack {a} {told} k e = record { answer = a; packs = k; sum = e ∙ sum-of a k }

@@ -1,13 +1,18 @@
--- What a read tells in the host's form.
+-- What a read tells the host: an answer and lists that the read promises, and the answer's sum; and that it leaves no choice. Assumes
+-- nothing.
 use Prim.Native.Nat.{ℕ}
-use mathlib.Core.Path.{_≡_}
+use mathlib.Core.Path.{_≡_, sym, ap, _∙_}
 use mathlib.Core.List.{List}
-use Rattle.records.specs.Answers.{hostForm, number, place}
-use Rattle.records.specs.Reading.{readAll}
-use Rattle.records.specs.Table.{entered, Table}
+use Rattle.records.specs.Answers.{sumOf}
+use Rattle.records.specs.Promise.{Promised, determined}
 use Rattle.records.specs.declared.fault.Answer.{Answer}
 
--- the answer a in the host's form, and the four lists afterwards: the stream's table where a accepts, untouched where it refuses
-pub record Told (a : Answer) (s t t′ l l′ p p′ n n′ : List ℕ) (told : ℕ) : Type 0 where
-  pub form : told ≡ hostForm (number a) (place a) 0
-  pub table : Table (entered a (readAll s .recs)) t t′ l l′ p p′ n n′
+module _ (answers : List ℕ → ℕ → Answer) (s t l p n : List ℕ) where
+  pub record Told (told : ℕ) (t′ l′ p′ n′ : List ℕ) : Type 0 where
+    pub answer : Answer
+    pub promised : Promised answers s t l p n answer t′ l′ p′ n′
+    pub sum : told ≡ sumOf answer
+
+  pub told-determined : {m₁ m₂ : ℕ} {t₁ l₁ p₁ n₁ t₂ l₂ p₂ n₂ : List ℕ} → Told m₁ t₁ l₁ p₁ n₁ → Told m₂ t₂ l₂ p₂ n₂
+      → (m₁ ≡ m₂) × ((t₁ ≡ t₂) × (l₁ ≡ l₂) × (p₁ ≡ p₂) × (n₁ ≡ n₂))
+  told-determined a b = let d = determined answers s t l p n (a .promised) (b .promised) in (a .sum ∙ ap sumOf (d .0) ∙ sym (b .sum), d .1)

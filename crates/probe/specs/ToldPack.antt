@@ -1,14 +1,23 @@
--- What pack tells in the host's form.
+-- What pack tells the host: an answer and a buffer that pack promises, and the answer's sum; and that it leaves no choice. Assumes nothing.
 use Prim.Native.Nat.{ℕ}
-use mathlib.Core.Path.{_≡_}
+use mathlib.Core.Path.{_≡_, sym, ap, _∙_}
 use mathlib.Core.List.{List}
-use lib.ListN.{length}
-use Rattle.records.specs.Answers.{hostForm}
-use Rattle.pack.specs.Rows.{rows, records}
-use Rattle.pack.specs.Packing.{packAnswer, leaves, number, place}
+use Rattle.records.specs.Answers.{numberOf, placeBits, hostForm}
+use Rattle.pack.specs.Promise.{Packs, determined}
 use Rattle.pack.specs.declared.judge.Packed.{Packed}
+use Rattle.pack.specs.declared.judge.Packed.the-variants as P
 
--- pack's answer in the host's form, and the buffer afterwards
-pub record ToldPack (count : ℕ) (tags levels places lengths bytes out out′ : List ℕ) (told : ℕ) : Type 0 where
-  pub form : told ≡ hostForm (number (packAnswer count tags levels places lengths bytes (length out))) (place (packAnswer count tags levels places lengths bytes (length out))) 0
-  pub buffer : out′ ≡ leaves (packAnswer count tags levels places lengths bytes (length out)) (records bytes (rows count tags levels places lengths)) out
+-- a length stands in full; an index of more than 28 bits, which only lists of more than 268,435,455 entries have, as the largest
+abbrev pub packSum : Packed → ℕ
+packSum (P.Length n) = hostForm 0 n 0
+packSum (P.Refused f i) = hostForm (numberOf f) (placeBits (i .0)) 0
+
+module _ (count : ℕ) (tags levels places lengths bytes out : List ℕ) where
+  pub record ToldPack (told : ℕ) (out′ : List ℕ) : Type 0 where
+    pub answer : Packed
+    pub packs : Packs count tags levels places lengths bytes out answer out′
+    pub sum : told ≡ packSum answer
+
+  pub told-determined : {m₁ m₂ : ℕ} {o₁ o₂ : List ℕ} → ToldPack m₁ o₁ → ToldPack m₂ o₂ → (m₁ ≡ m₂) × (o₁ ≡ o₂)
+  told-determined a b =
+      let d = determined count tags levels places lengths bytes out (a .packs) (b .packs) in (a .sum ∙ ap packSum (d .0) ∙ sym (b .sum), d .1)

@@ -13,7 +13,7 @@ pub extern "C" fn probe_pack(
     bytes: &[u8],
     out: &mut [u8],
 ) -> u64
-    ensures { λ r. ⌜ ToldPack count (now (tags .entry)) (now (levels .entry)) (now (places .entry)) (now (lengths .entry)) (now (bytes .entry)) (now (out .entry)) (now (out .exit)) r ⌝ }
+    ensures { λ r. ⌜ ToldPack count (now (tags .entry)) (now (levels .entry)) (now (places .entry)) (now (lengths .entry)) (now (bytes .entry)) (now (out .entry)) r (now (out .exit)) ⌝ }
 {
     let answer = pack::pack(count as usize, tags, levels, places, lengths, bytes, out);
     answer.host()

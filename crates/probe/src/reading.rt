@@ -1,5 +1,5 @@
 // Read in the host's form.
-ghost use Rattle.records.specs.Table.{readAnswer, shortest};
+ghost use Rattle.records.specs.Table.{readAnswer};
 ghost use Rattle.docinfo.specs.DocInfo.{docinfoAnswer};
 ghost use Rattle.section.specs.Section.{sectionAnswer};
 ghost use Rattle.probe.specs.Told.{Told};
@@ -13,7 +13,7 @@ pub extern "C" fn probe_read(
     places: &mut [u32],
     lengths: &mut [u32],
 ) -> u64
-    ensures { λ r. ⌜ Told (readAnswer (now (stream .entry)) (shortest (now (tags .entry)) (now (levels .entry)) (now (places .entry)) (now (lengths .entry)))) (now (stream .entry)) (now (tags .entry)) (now (tags .exit)) (now (levels .entry)) (now (levels .exit)) (now (places .entry)) (now (places .exit)) (now (lengths .entry)) (now (lengths .exit)) r ⌝ }
+    ensures { λ r. ⌜ Told readAnswer (now (stream .entry)) (now (tags .entry)) (now (levels .entry)) (now (places .entry)) (now (lengths .entry)) r (now (tags .exit)) (now (levels .exit)) (now (places .exit)) (now (lengths .exit)) ⌝ }
 {
     let answer = records::read(stream, tags, levels, places, lengths);
     answer.host()
@@ -28,7 +28,7 @@ pub extern "C" fn probe_read_docinfo(
     places: &mut [u32],
     lengths: &mut [u32],
 ) -> u64
-    ensures { λ r. ⌜ Told (docinfoAnswer (now (stream .entry)) (shortest (now (tags .entry)) (now (levels .entry)) (now (places .entry)) (now (lengths .entry)))) (now (stream .entry)) (now (tags .entry)) (now (tags .exit)) (now (levels .entry)) (now (levels .exit)) (now (places .entry)) (now (places .exit)) (now (lengths .entry)) (now (lengths .exit)) r ⌝ }
+    ensures { λ r. ⌜ Told docinfoAnswer (now (stream .entry)) (now (tags .entry)) (now (levels .entry)) (now (places .entry)) (now (lengths .entry)) r (now (tags .exit)) (now (levels .exit)) (now (places .exit)) (now (lengths .exit)) ⌝ }
 {
     let answer = docinfo::read_docinfo(stream, tags, levels, places, lengths);
     answer.host()
@@ -43,7 +43,7 @@ pub extern "C" fn probe_read_section(
     places: &mut [u32],
     lengths: &mut [u32],
 ) -> u64
-    ensures { λ r. ⌜ Told (sectionAnswer (now (stream .entry)) (shortest (now (tags .entry)) (now (levels .entry)) (now (places .entry)) (now (lengths .entry)))) (now (stream .entry)) (now (tags .entry)) (now (tags .exit)) (now (levels .entry)) (now (levels .exit)) (now (places .entry)) (now (places .exit)) (now (lengths .entry)) (now (lengths .exit)) r ⌝ }
+    ensures { λ r. ⌜ Told sectionAnswer (now (stream .entry)) (now (tags .entry)) (now (levels .entry)) (now (places .entry)) (now (lengths .entry)) r (now (tags .exit)) (now (levels .exit)) (now (places .exit)) (now (lengths .exit)) ⌝ }
 {
     let answer = section::read_section(stream, tags, levels, places, lengths);
     answer.host()

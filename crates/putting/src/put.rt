@@ -63,10 +63,10 @@ pub fn put_low(out: &mut [u8], at: Offset, w: usize, n: usize) -> Offset
 }
 
 // Puts the header of a body of this length.
-pub fn put_head(out: &mut [u8], at: Offset, tag: u32, level: u32, length: usize) -> Offset
-    ensures { λ next. ⌜ Puts (now (out .entry)) (at .0) (headerOf tag level length) (next .0) (now (out .exit)) ⌝ }
+pub fn put_head(out: &mut [u8], at: Offset, tag: u32, level: u32, len: usize) -> Offset
+    ensures { λ next. ⌜ Puts (now (out .entry)) (at .0) (headerOf tag level len) (next .0) (now (out .exit)) ⌝ }
 {
     let mut eight = [0u8; 8];
-    put_header(&mut eight, tag, level, length);
-    put_part(out, at, &eight, 0, lead(length))
+    put_header(&mut eight, tag, level, len);
+    put_part(out, at, &eight, 0, lead(len))
 }

@@ -7,7 +7,7 @@ use mathlib.Core.Option.{some}
 use mathlib.Core.List.{List, [], _∷_}
 use lib.ListN.{length}
 use Rattle.text.specs.Walk.{Token, tokens, tokensAt, isExtended, extendedIn, extendedCount, faultAt, textFault}
-use Rattle.text.specs.Answers.{place, verdict, judged}
+use Rattle.text.specs.Answers.{position, verdict, judged}
 use Rattle.text.specs.declared.Class.the-variants.{Character, Inline, Extended}
 use Rattle.text.specs.declared.Standing.{Standing}
 use Rattle.text.specs.declared.Standing.the-variants.{Ordinary, Control}
@@ -37,17 +37,19 @@ met : (k : ℕ) (t : Token) (ts : List Token) → k + extendedIn (t ∷ ts) ≡ 
 unfolding extendedIn
 met k t ts = sym (add-assoc k (isExtended (t .what)) (extendedIn ts))
 
-pub walked-on : {us : List ℕ} {p k q r : ℕ} {s : Standing} → Walked us p k → Reached us p q s r → Walked us r (k + isExtended s)
-walked-on {us} {p} {k} {q} {r} {s} w h =
-    record {
+-- n is what the next control counts
+pub walked-on : {us : List ℕ} {p k q r n : ℕ} {s : Standing} → Walked us p k → Reached us p q s r → n ≡ isExtended s → Walked us r (k + n)
+walked-on {us} {p} {k} {q} {r} {n} {s} w h is =
+    rw is
+    (record {
       whole =
           w .whole
           ∙ rw (h .fault, h .extended, h .onward .fault, h .onward .tokens, met k (record { at = q; what = s }) (tokensAt us r));
       within = h .onward .fits;
       few = omega (arith, at-most-one s, w .few, h .from, h .onward .rises);
-    }
+    })
 
-pub walked-broken : {us : List ℕ} {p k q : ℕ} → Walked us p k → faultAt us p ≡ some q → judgement.Broken (place q) ≡ judged us
+pub walked-broken : {us : List ℕ} {p k q : ℕ} → Walked us p k → faultAt us p ≡ some q → judgement.Broken (position q) ≡ judged us
 walked-broken w e = sym (rw e at (w .whole))
 
 pub walked-end : {us : List ℕ} {p k : ℕ} → Walked us p k → Ended us p → judgement.Sound k ≡ judged us
@@ -56,7 +58,7 @@ walked-end {us} {p} {k} w e =
     let z : k + 0 ≡ k = omega arith in
     sym (rw (e .fault, e .tokens, z) at (w .whole))
 
-pub judged-none : (us : List ℕ) → length us ≡ 0 → judgement.Broken (place 0) ≡ judged us
+pub judged-none : (us : List ℕ) → length us ≡ 0 → judgement.Broken (position 0) ≡ judged us
 unfolding judged textFault
 judged-none [] h = refl
 judged-none (u ∷ us) h = absurd (omega arith)

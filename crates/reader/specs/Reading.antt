@@ -6,7 +6,7 @@ use lib.ListN.{drop}
 use denote.Ref.{RefT, now}
 use Rattle.text.specs.Units.{units}
 use Rattle.text.specs.Walk.{run}
-use Rattle.text.specs.Answers.{place, stepAt}
+use Rattle.text.specs.Answers.{position, stepAt}
 use Rattle.text.specs.declared.Position.{Position}
 use Rattle.text.specs.declared.Step.{Step}
 use Rattle.reader.specs.declared.Reader.{Reader}
@@ -16,7 +16,7 @@ reader text at = record { text = text; at = at }
 
 -- the same walk at the next unit below 32, or at the end
 abbrev pub ahead : Reader → Reader
-ahead r = reader (r .text) (place (r .at .0 + run (drop (r .at .0) (units (now (r .text))))))
+ahead r = reader (r .text) (position (r .at .0 + run (drop (r .at .0) (units (now (r .text))))))
 
 -- what stands where the walk stands
 abbrev pub standing : Reader → Step

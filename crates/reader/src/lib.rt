@@ -6,7 +6,7 @@ ghost use Prim.Native.Nat.{_+_};
 ghost use lib.ListN.{drop};
 ghost use Rattle.text.specs.Units.{units};
 ghost use Rattle.text.specs.Walk.{run, isExtended};
-ghost use Rattle.text.specs.Answers.{place, stepAt, controlAt, judged};
+ghost use Rattle.text.specs.Answers.{position, stepAt, controlAt, judged};
 ghost use Rattle.reader.specs.Reading.{reader, ahead, standing};
 use text::Class;
 use text::Cursor;
@@ -22,7 +22,7 @@ pub struct Reader<'a> {
 
 // The position of the next unit below 32, or the end (document 01, 'Filling a field').
 fn control_from(text: &[u8], at: Position) -> Position
-    ensures { λ r. ⌜ r ≡ place (at .0 + run (drop (at .0) (units (now (text .entry))))) ⌝ }
+    ensures { λ r. ⌜ r ≡ position (at .0 + run (drop (at .0) (units (now (text .entry))))) ⌝ }
 {
     let cursor = Cursor { at };
     let control = cursor.past_ordinary(text);

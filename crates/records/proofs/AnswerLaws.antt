@@ -1,25 +1,35 @@
 -- The laws of the host's form. Assumes nothing.
-use Prim.Native.Nat.{ℕ, _+_, _*_, _≤_}
+use Prim.Native.Nat.{ℕ, _+_, _*_, _/_, _%_, _≤_, _<_}
 use native.Mathlib.Omega.{arith}
 use mathlib.Core.Path.{_≡_, refl, sym, ap, _∙_, subst}
+use Rattle.records.specs.Records.{limit}
 use Rattle.records.specs.Answers.{numberOf, placeBits, hostForm, number, place}
 use Rattle.records.specs.declared.fault.Refusal.{Refusal}
 use Rattle.records.specs.declared.fault.Answer.{Answer}
 use Rattle.records.specs.declared.fault.Answer.the-variants as A
 
 abbrev Formed : Answer → ℕ → Type 0
-Formed a h = h ≡ hostForm (number a) (place a) 0
+Formed a h = h ≡ hostForm (number a) (placeBits (place a)) 0
 
-pub host-accepted : (a : Answer) (n b : ℕ) → a ≡ A.Accepted n → b ≡ placeBits n → 256 * b ≡ hostForm (number a) (place a) 0
+pub host-accepted : (a : Answer) (n b : ℕ) → a ≡ A.Accepted n → b ≡ placeBits n → 256 * b ≡ hostForm (number a) (placeBits (place a)) 0
 unfolding hostForm
 host-accepted a n b e f = subst (λ (x : Answer). Formed x (256 * b)) (sym e) (omega arith)
 
 pub host-refused : (a : Answer) (r : Refusal) (m b : ℕ) → a ≡ A.Refused r → m ≡ numberOf (r .fault) → b ≡ placeBits (r .place .0)
-    → m + 256 * b ≡ hostForm (number a) (place a) 0
+    → m + 256 * b ≡ hostForm (number a) (placeBits (place a)) 0
 unfolding hostForm
 host-refused a r m b e g f = subst (λ (x : Answer). Formed x (m + 256 * b)) (sym e) (omega arith)
 
 -- a place within the limit stands in full
-pub host-whole : (n p : ℕ) → p ≤ 16777216 → hostForm n p 0 ≡ n + 256 * p
+pub in-full : {p : ℕ} → p ≤ limit → placeBits p ≡ p
+in-full h = omega arith
+
+-- and the host reads number, place and further number off the sum
+pub record Apart (n p further sum : ℕ) : Type 0 where
+  pub number-is : sum % 256 ≡ n
+  pub place-is : sum / 256 % 268435456 ≡ p
+  pub further-is : sum / 68719476736 ≡ further
+
+pub told-apart : (n p further : ℕ) → n < 256 → p ≤ limit → Apart n p further (hostForm n p further)
 unfolding hostForm
-host-whole n p h = omega arith
+told-apart n p further h k = record { number-is = omega arith; place-is = omega arith; further-is = omega arith }

@@ -36,7 +36,7 @@ length-part s skip n h = length-take-le n (drop skip s) (simp length-drop (omega
 
 -- a header's numbers
 abbrev pub header : ℕ → ℕ → ℕ → ℕ → Header
-header tag level lead n = record { tag = tag; level = level; lead = lead; length = n }
+header tag level lead n = record { tag = tag; level = level; lead = lead; len = n }
 
 module _ (tag level : ℕ) (s : List ℕ) (skip n : ℕ) where
   pub body-past : length s < skip + n → H.Refused F.BodyPastEnd ≡ frontOf (bodyAt tag level s skip n)

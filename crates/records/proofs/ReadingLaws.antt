@@ -14,7 +14,7 @@ use lib.Seq.{take-at, drop-at, take-add, drop-drop, getD-take, getD-drop, length
 use borrow.Author.Tests.{ltb-true, ltb-false, lt-ltb, le-ltb, eq-eqb, ne-eqb}
 use Rattle.numbers.specs.Little.{little, bytesOf, Bytes, span}
 use Rattle.numbers.proofs.LittleLaws.{bytes-drop, little-small, length-bytesOf, little-bytesOf, bytesOf-little, part-rest}
-use Rattle.records.specs.Records.{Rec, headerWord, leadOf, headerOf, encodeOne, encode, size, Obeys, Lawful, Encodes}
+use Rattle.records.specs.Records.{Rec, headerWord, leadOf, headerOf, encodeOne, encode, size, RecordObeys, Lawful, Encodes}
 use Rattle.records.specs.Reading.{Stands, whole, fault, guard, bodyAt, longAt, wordAt, standsAt, frontOf, offset, recordAt, aheadBy, aheadOf, Read, onto, readFrom, readAll}
 use Rattle.records.specs.declared.fault.Fault.{Fault}
 use Rattle.records.specs.declared.header.Header.{Header}
@@ -131,7 +131,7 @@ encode-length r t = simp (length-append, length-encodeOne)
 behind : (a b t : List ℕ) (k : ℕ) → length a ≡ k → take (length b) (drop k (a ++ (b ++ t))) ≡ b
 behind a b t k e = simp (drop-at a (b ++ t) k e, take-at b t (length b) refl)
 
-module _ (cap : ℕ) (r : Rec) (t : List ℕ) (o : Obeys cap r) where
+module _ (cap : ℕ) (r : Rec) (t : List ℕ) (o : RecordObeys cap r) where
   stands-short : length (r .body) < 4095 → standsAt cap (encodeOne r ++ t) ≡ whole r
   unfolding size
   stands-short h =
@@ -166,7 +166,7 @@ module _ (cap : ℕ) (r : Rec) (t : List ℕ) (o : Obeys cap r) where
 
 -- what is known of a record that stands at the front of s
 pub record Found (cap : ℕ) (s : List ℕ) (r : Rec) : Type 0 where
-  pub obeys : Obeys cap r
+  pub obeys : RecordObeys cap r
   pub inside : size r ≤ length s
   pub bytes : encodeOne r ≡ take (size r) s
 
@@ -193,7 +193,7 @@ module _ (cap : ℕ) (s : List ℕ) (bs : Bytes s) where
   abbrev found-of : ℕ → ℕ → Rec
   found-of skip n = record { tag = w % 1024; level = w / 1024 % 1024; body = take n (drop skip s) }
 
-  found-obeys : (skip n : ℕ) → 16 ≤ w % 1024 → w / 1024 % 1024 ≤ cap → n < span 4 → skip + n ≤ length s → Obeys cap (found-of skip n)
+  found-obeys : (skip n : ℕ) → 16 ≤ w % 1024 → w / 1024 % 1024 ≤ cap → n < span 4 → skip + n ≤ length s → RecordObeys cap (found-of skip n)
   unfolding span
   found-obeys skip n t l h k =
       record {
@@ -382,16 +382,16 @@ read-prefix cap s bs = prefix-within (length s) cap s (omega arith) bs
 module _ (s : List ℕ) (at cap : ℕ) (h : at < length s) where
   -- the record that it is
   front-by : (a : Stands) (k : Header) → standsAt cap (drop at s) ≡ a → frontOf a ≡ H.Record k
-      → N.Record (record { at = offset at; tag = k .tag; level = k .level; body = offset (at + k .lead); length = k .length; next = offset (at + k .lead + k .length) })
+      → N.Record (record { at = offset at; tag = k .tag; level = k .level; body = offset (at + k .lead); len = k .len; next = offset (at + k .lead + k .len) })
       ≡ aheadBy at (standsAt cap (drop at s))
   unfolding size
   front-by (fault f) k q e = absurd (let z : _≡_ {A = ℕ} 0 1 = cc in omega arith)
   front-by (whole r) k q e =
-      let same : record { tag = r .tag; level = r .level; lead = leadOf (length (r .body)); length = length (r .body) } ≡ k = cc in
-      rw (q, ← same) (ap (λ (i : ℕ). N.Record (record { at = offset at; tag = r .tag; level = r .level; body = offset (at + leadOf (length (r .body))); length = length (r .body); next = offset i })) (add-assoc at _ _))
+      let same : record { tag = r .tag; level = r .level; lead = leadOf (length (r .body)); len = length (r .body) } ≡ k = cc in
+      rw (q, ← same) (ap (λ (i : ℕ). N.Record (record { at = offset at; tag = r .tag; level = r .level; body = offset (at + leadOf (length (r .body))); len = length (r .body); next = offset i })) (add-assoc at _ _))
 
   pub ahead-record : (k : Header) → frontOf (standsAt cap (take (length s - at) (drop at s))) ≡ H.Record k
-      → N.Record (record { at = offset at; tag = k .tag; level = k .level; body = offset (at + k .lead); length = k .length; next = offset (at + k .lead + k .length) })
+      → N.Record (record { at = offset at; tag = k .tag; level = k .level; body = offset (at + k .lead); len = k .len; next = offset (at + k .lead + k .len) })
       ≡ aheadOf cap s at
   unfolding aheadOf
   ahead-record k e =
@@ -431,16 +431,16 @@ pub record Here (s : List ℕ) (at cap : ℕ) (r : Record) : Type 0 where
   pub tag-is : r .tag ≡ rec .tag
   pub level-is : r .level ≡ rec .level
   pub body-is : r .body .0 ≡ at + leadOf (length (rec .body))
-  pub length-is : r .length ≡ length (rec .body)
+  pub length-is : r .len ≡ length (rec .body)
   pub next-is : r .next .0 ≡ at + size rec
-  pub body-end : r .body .0 + r .length ≡ r .next .0
+  pub body-end : r .body .0 + r .len ≡ r .next .0
   pub size-low : 4 ≤ size rec
   pub left : at < length s
   pub stands : standsAt cap (drop at s) ≡ whole rec
-  pub obeys : Obeys cap rec
+  pub obeys : RecordObeys cap rec
   pub inside : at + size rec ≤ length s
   pub bytes : encodeOne rec ≡ take (size rec) (drop at s)
-  pub body-there : take (r .length) (drop (r .body .0) s) ≡ rec .body
+  pub body-there : take (r .len) (drop (r .body .0) s) ≡ rec .body
   pub next : readFrom cap 0 (drop at s) ≡ onto rec (readFrom (rec .level + 1) 0 (drop (at + size rec) s))
 
 module _ (s : List ℕ) (at cap : ℕ) where

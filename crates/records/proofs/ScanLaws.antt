@@ -193,3 +193,8 @@ module _ (s : List ℕ) (room : ℕ) (bs : Bytes s) where
   pub answer-near : place (readAnswer s room) ≤ limit
   unfolding readAnswer
   answer-near = near-limit (ltb limit (length s)) refl
+
+  -- the records of an accepted stream, as bytes
+  pub records-near : (n : ℕ) → readAnswer s room ≡ A.Accepted n → length (encode (readAll s .recs)) ≤ limit
+  unfolding readAll
+  records-near n e = omega (arith, accepted s room n e .small, read-prefix 0 s bs)

@@ -115,7 +115,7 @@ module _ (s t₀ l₀ p₀ n₀ : List ℕ) where
     pass-room r d = enter-room _ _ _ _ _ _ _ _ _ _ _ _ _ (at-record r d)
 
     pub pass-next : (r : Record) (d : Here s at cap r)
-        → Passing s t₀ (set t i (r .tag)) l₀ (set l i (r .level)) p₀ (set p i (r .body .0)) n₀ (set n i (r .length)) (r .next .0) (r .level + 1) (i + 1)
+        → Passing s t₀ (set t i (r .tag)) l₀ (set l i (r .level)) p₀ (set p i (r .body .0)) n₀ (set n i (r .len)) (r .next .0) (r .level + 1) (i + 1)
     pass-next r d =
         record {
           small = k .small;

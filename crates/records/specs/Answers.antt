@@ -48,10 +48,14 @@ abbrev pub place : Answer → ℕ
 place (A.Accepted n) = n
 place (A.Refused r) = r .place .0
 
--- a place in the host's number has 28 bits; one that needs more is given as the largest
-abbrev pub placeBits : ℕ → ℕ
-placeBits p = min p 268435455
-
 -- the host's 64 bits: the number, plus 256 times the place, plus 2 to the power 36 times the further number (document 01, 'What the part does')
 unfoldable pub hostForm : ℕ → ℕ → ℕ → ℕ
-hostForm n p further = n + 256 * placeBits p + 68719476736 * placeBits further
+hostForm n p further = n + 256 * p + 68719476736 * further
+
+-- the sum that tells the host an answer
+abbrev pub sumOf : Answer → ℕ
+sumOf a = hostForm (number a) (place a) 0
+
+-- a place that has its 28 bits there, as every place within the limit does; a larger one would be given as the largest
+abbrev pub placeBits : ℕ → ℕ
+placeBits p = min p 268435455

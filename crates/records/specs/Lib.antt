@@ -1,7 +1,7 @@
 pub mod Kinds
 pub mod Records
+pub mod Parents
 pub mod Answers
 pub mod Reading
 pub mod Table
-pub mod Pairs
 pub mod Promise

@@ -1,14 +1,15 @@
--- What read promises leaves no choice: two outcomes that it allows are equal. Assumes nothing.
-use mathlib.Core.Path.{_≡_, refl, sym, ap, _∙_, subst}
-use mathlib.Core.List.{List, map}
+-- What a read promises, and that it leaves no choice: two outcomes that it allows are equal. Read, the section read and the DocInfo read
+-- promise the same of their lists, each by its own answer. Assumes nothing.
+use mathlib.Core.Path.{_≡_, sym, _∙_, subst}
+use mathlib.Core.List.{List}
 use Prim.Native.Nat.{ℕ}
 use Rattle.records.specs.Records.{Rec}
 use Rattle.records.specs.Reading.{readAll}
-use Rattle.records.specs.Table.{shortest, readAnswer, entered, written, tagOf, levelOf, lengthOf, placesFrom, Table}
+use Rattle.records.specs.Table.{shortest, entered, Table}
 use Rattle.records.specs.declared.fault.Answer.{Answer}
 
 -- two tables of the same records over the same lists are the same
-pub same-table : (rs : List Rec) (t l p n t₁ l₁ p₁ n₁ t₂ l₂ p₂ n₂ : List ℕ) → Table rs t t₁ l l₁ p p₁ n n₁ → Table rs t t₂ l l₂ p p₂ n n₂
+same-table : (rs : List Rec) (t l p n t₁ l₁ p₁ n₁ t₂ l₂ p₂ n₂ : List ℕ) → Table rs t t₁ l l₁ p p₁ n n₁ → Table rs t t₂ l l₂ p p₂ n n₂
     → (t₁ ≡ t₂) × (l₁ ≡ l₂) × (p₁ ≡ p₂) × (n₁ ≡ n₂)
 same-table rs t l p n t₁ l₁ p₁ n₁ t₂ l₂ p₂ n₂ a b = (
   a .tags-are ∙ sym (b .tags-are),
@@ -17,10 +18,11 @@ same-table rs t l p n t₁ l₁ p₁ n₁ t₂ l₂ p₂ n₂ a b = (
   a .lengths-are ∙ sym (b .lengths-are),
 )
 
-module _ (s t l p n : List ℕ) where
-  -- the promise of read, at an answer and the lists afterwards
+-- a read of the stream s over four lists, which `answers` by the stream and the room
+module _ (answers : List ℕ → ℕ → Answer) (s t l p n : List ℕ) where
+  -- its promise, at an answer and the lists afterwards
   pub record Promised (r : Answer) (t′ l′ p′ n′ : List ℕ) : Type 0 where
-    pub answer : r ≡ readAnswer s (shortest t l p n)
+    pub answer : r ≡ answers s (shortest t l p n)
     pub table : Table (entered r (readAll s .recs)) t t′ l l′ p p′ n n′
 
   pub determined : {r₁ r₂ : Answer} {t₁ l₁ p₁ n₁ t₂ l₂ p₂ n₂ : List ℕ} → Promised r₁ t₁ l₁ p₁ n₁ → Promised r₂ t₂ l₂ p₂ n₂

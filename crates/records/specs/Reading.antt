@@ -52,7 +52,7 @@ standsAt cap s = guard (ltb (length s) 4) F.HeaderCut (wordAt cap s (little 4 s)
 -- the same as a header's numbers
 abbrev pub frontOf : Stands → Front
 frontOf (whole r) =
-    H.Record (record { tag = r .tag; level = r .level; lead = leadOf (length (r .body)); length = length (r .body) })
+    H.Record (record { tag = r .tag; level = r .level; lead = leadOf (length (r .body)); len = length (r .body) })
 frontOf (fault f) = H.Refused f
 
 -- a byte place
@@ -67,7 +67,7 @@ recordAt at r =
       tag = r .tag;
       level = r .level;
       body = offset (at + leadOf (length (r .body)));
-      length = length (r .body);
+      len = length (r .body);
       next = offset (at + size r);
     }
 
@@ -88,7 +88,9 @@ pub record Read : Type 0 where
 unfoldable pub onto : Rec → Read → Read
 onto r x = record { recs = r ∷ x .recs; stop = x .stop }
 
--- reading where the next level may be at most cap and k bytes of the record before are still to be passed over
+-- reading where the next level may be at most cap and k bytes of the record before are still to be passed over. What it reads need not be
+-- followed here: of the encoding of lawful records it reads those records, and what it reads without a fault is such an encoding
+-- (`stream-records`, `accepted-stream` and `stream-accepted` in proofs/Reader.antt)
 unfoldable pub readFrom : ℕ → ℕ → List ℕ → Read
 readFrom cap k [] = record { recs = []; stop = none }
 readFrom cap (suc k) (x ∷ s) = readFrom cap k s

@@ -43,7 +43,7 @@ unfoldable pub size : Rec → ℕ
 size r = leadOf (length (r .body)) + length (r .body)
 
 -- what document 01 asks of a record whose level may be at most cap
-pub record Obeys (cap : ℕ) (r : Rec) : Type 0 where
+pub record RecordObeys (cap : ℕ) (r : Rec) : Type 0 where
   pub tag-low : 16 ≤ r .tag
   pub tag-high : r .tag < 1024
   pub level-cap : r .level ≤ cap
@@ -53,7 +53,7 @@ pub record Obeys (cap : ℕ) (r : Rec) : Type 0 where
 -- the tag and level rules: each later level is at most one above the record before it
 abbrev pub Lawful : ℕ → List Rec → Type 0
 Lawful cap [] = Unit {0}
-Lawful cap (r ∷ rs) = Obeys cap r × Lawful (r .level + 1) rs
+Lawful cap (r ∷ rs) = RecordObeys cap r × Lawful (r .level + 1) rs
 
 -- a stream is the encoding of a lawful list of records, the first of which has at most the level cap (0 for a whole stream)
 pub record Encodes (cap : ℕ) (s : List ℕ) (rs : List Rec) : Type 0 where

@@ -91,7 +91,8 @@ pub fn refused(fault: Fault, place: Offset) -> Answer
     Answer::Refused(Refusal { fault, place })
 }
 
-// A place has 28 bits in the host's number; one that needs more is given as the largest, and no place of ours does.
+// A place has 28 bits in the host's number. One that needs more is given as the largest, so that every number is taken; of a stream
+// within the limit no place, count or length does.
 pub fn bits(place: usize) -> u64
     ensures { λ r. ⌜ (r ≡ placeBits place) × (r < 268435456) ⌝ }
 {
@@ -105,7 +106,7 @@ pub fn bits(place: usize) -> u64
 impl Answer {
     // The host's form: the number, plus 256 times the place or what stands in its column for 0.
     pub fn host(self) -> u64
-        ensures { λ r. ⌜ r ≡ hostForm (number self) (place self) 0 ⌝ }
+        ensures { λ r. ⌜ r ≡ hostForm (number self) (placeBits (place self)) 0 ⌝ }
     {
         match self {
             Answer::Accepted(n) => 256 * bits(n),

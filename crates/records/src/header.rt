@@ -11,7 +11,7 @@ pub struct Header {
     pub tag: u32,
     pub level: u32,
     pub lead: usize,
-    pub length: usize,
+    pub len: usize,
 }
 
 pub enum Front {
@@ -49,19 +49,19 @@ fn long(s: &[u8], tag: u32, level: u32) -> Front
     if s.len() < 8 {
         return Front::Refused(Fault::HeaderCut);
     }
-    let length = number32(&s[4..]);
-    if length < 4095 {
+    let len = number32(&s[4..]);
+    if len < 4095 {
         return Front::Refused(Fault::LongLengthTooSmall);
     }
-    body(s, tag, level, 8, length)
+    body(s, tag, level, 8, len)
 }
 
 // The record whose body is behind the first `lead` bytes.
-fn body(s: &[u8], tag: u32, level: u32, lead: usize, length: u32) -> Front
-    requires { ⌜ lead ≡ leadOf length ⌝ }
-    ensures { λ r. ⌜ r ≡ frontOf (bodyAt tag level (now (s .entry)) lead length) ⌝ }
+fn body(s: &[u8], tag: u32, level: u32, lead: usize, len: u32) -> Front
+    requires { ⌜ lead ≡ leadOf len ⌝ }
+    ensures { λ r. ⌜ r ≡ frontOf (bodyAt tag level (now (s .entry)) lead len) ⌝ }
 {
-    let n = length as usize;
+    let n = len as usize;
     if s.len() < lead + n {
         return Front::Refused(Fault::BodyPastEnd);
     }
@@ -69,7 +69,7 @@ fn body(s: &[u8], tag: u32, level: u32, lead: usize, length: u32) -> Front
         tag,
         level,
         lead,
-        length: n,
+        len: n,
     })
 }
 
@@ -79,7 +79,7 @@ pub struct Record {
     pub tag: u32,
     pub level: u32,
     pub body: Offset,
-    pub length: usize,
+    pub len: usize,
     pub next: Offset,
 }
 
@@ -101,13 +101,13 @@ pub fn record_at(s: &[u8], at: Offset, cap: u32) -> Ahead
     match first(&s[place..], cap) {
         Front::Record(h) => {
             let body = place + h.lead;
-            let next = body + h.length;
+            let next = body + h.len;
             Ahead::Record(Record {
                 at,
                 tag: h.tag,
                 level: h.level,
                 body: Offset(body),
-                length: h.length,
+                len: h.len,
                 next: Offset(next),
             })
         }

@@ -11,7 +11,8 @@ ghost use Prim.Native.Nat.{_≤_};
 ghost use lib.ListN.{length};
 ghost use Rattle.records.specs.Records.{limit};
 ghost use Rattle.records.specs.Reading.{readAll};
-ghost use Rattle.records.specs.Table.{readAnswer, entered, Table, shortest};
+ghost use Rattle.records.specs.Table.{readAnswer, Table, shortest};
+ghost use Rattle.records.specs.Promise.{Promised};
 
 // The first pass: how many records the stream has, or what is wrong with it; where they are more than `room`, the first
 // that does not fit.
@@ -76,7 +77,7 @@ fn enter(s: &[u8], tags: &mut [u32], levels: &mut [u32], places: &mut [u32], len
         tags[i] = r.tag;
         levels[i] = r.level;
         places[i] = body.0 as u32;
-        lengths[i] = r.length as u32;
+        lengths[i] = r.len as u32;
         at = r.next;
         cap = r.level + 1;
         i = i + 1;
@@ -92,8 +93,7 @@ pub fn read(
     places: &mut [u32],
     lengths: &mut [u32],
 ) -> Answer
-    ensures answer { λ r. ⌜ r ≡ readAnswer (now (s .entry)) (shortest (now (tags .entry)) (now (levels .entry)) (now (places .entry)) (now (lengths .entry))) ⌝ }
-    ensures table { λ r. ⌜ Table (entered r (readAll (now (s .entry)) .recs)) (now (tags .entry)) (now (tags .exit)) (now (levels .entry)) (now (levels .exit)) (now (places .entry)) (now (places .exit)) (now (lengths .entry)) (now (lengths .exit)) ⌝ }
+    ensures { λ r. ⌜ Promised readAnswer (now (s .entry)) (now (tags .entry)) (now (levels .entry)) (now (places .entry)) (now (lengths .entry)) r (now (tags .exit)) (now (levels .exit)) (now (places .exit)) (now (lengths .exit)) ⌝ }
 {
     match scan(s, room(tags, levels, places, lengths)) {
         Answer::Accepted(n) => {

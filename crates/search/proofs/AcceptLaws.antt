@@ -15,7 +15,7 @@ use Rattle.paragraph.proofs.StreamLaws.{in-encode}
 use Rattle.section.specs.Section.{checkAnswer}
 use Rattle.acceptance.proofs.SectionReader.{accepted-section}
 use Rattle.filling.specs.Search.{hits}
-use Rattle.search.specs.Accepted.{Keep, Sound}
+use Rattle.search.specs.Accepted.{Keep, Searchable}
 use Rattle.search.specs.Searching.{metWith, sectionSearchOf, sectionSearch}
 use Rattle.search.specs.declared.seek.Met.{Met}
 use Rattle.search.specs.declared.seek.Met.the-variants as M
@@ -24,7 +24,7 @@ use Rattle.search.specs.declared.seek.SectionSearch.the-variants as S
 pub record Sectioned (s : List ℕ) : Type 0 where
   pub small : length s ≤ limit
   pub records : recordsIn s ≡ readAll s .recs
-  pub sound : Sound s
+  pub sound : Searchable s
 
 module _ (s : List ℕ) (bs : Bytes s) (n : ℕ) (e : checkAnswer s ≡ A.Accepted n) where
   pub sectioned : Sectioned s

@@ -13,7 +13,8 @@ use Rattle.records.specs.Records.{Rec, size}
 use Rattle.records.specs.Reading.{offset}
 use Rattle.records.specs.declared.fault.Offset.{Offset}
 use Rattle.records.specs.declared.header.Record.{Record}
-use Rattle.text.specs.Walk.{among, classOf, what, width, walk, isExtended, extendedIn}
+use Rattle.text.specs.Asked.{among, classOf, what, width}
+use Rattle.text.specs.Walk.{walk, isExtended, extendedIn}
 use Rattle.text.proofs.Cases.{lt-or, eq-or}
 use Rattle.text.proofs.TableLaws.{what-control, what-ordinary}
 use Rattle.paragraph.specs.View.{side, kids, controls}
@@ -28,7 +29,7 @@ use Rattle.filling.proofs.FieldLaws.{fields-ordinary, fields-other}
 use Rattle.filling.proofs.SearchLaws.{hits-past}
 use Rattle.filling.proofs.EditLaws.{which, is-beyond, is-owned, is-passed}
 use Rattle.search.specs.Accepted.{Keep}
-use Rattle.search.specs.Searching.{partBy, partOf, bareIn}
+use Rattle.search.specs.Steps.{partBy, partOf, bareIn}
 use Rattle.search.specs.declared.passing.Until.the-variants as U
 
 -- ---- no extended control, no field

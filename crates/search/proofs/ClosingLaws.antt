@@ -15,7 +15,7 @@ use Rattle.text.proofs.PartLaws.{singles}
 use Rattle.text.proofs.ControlLaws.{control-stands, NoControl, none-stands}
 use Rattle.filling.specs.Fields.{next}
 use Rattle.filling.proofs.FieldLaws.{next-control}
-use Rattle.search.specs.Searching.{closingOf, closingBy}
+use Rattle.search.specs.Steps.{closingOf, closingBy}
 
 -- ordinary units close nothing
 next-singles : (p : ℕ) (x : List ℕ) (ts : List Token) → next (singles p x ++ ts) ≡ next ts

@@ -5,7 +5,8 @@ use mathlib.Core.Option.{Option, none, some}
 use mathlib.Core.List.{List}
 use lib.ListN.{length}
 use Rattle.text.specs.Units.{units}
-use Rattle.text.specs.Walk.{Sound, textFault, extendedCount}
+use Rattle.text.specs.Asked.{SoundText}
+use Rattle.text.specs.Walk.{textFault, extendedCount}
 use Rattle.text.proofs.SoundLaws.{sound-exactly}
 use Rattle.paragraph.specs.View.{View, child, controls}
 use Rattle.paragraph.specs.Rules.{bytesIn}
@@ -20,7 +21,7 @@ pub record Fit (v : View) : Type 0 where
   pub sound : TextSound (child 67 (v .own))
   pub owned : extendedCount (units (bytesIn (child 67 (v .own)))) ≡ length (controls (v .own))
 
-sound-of : (o : Option (List ℕ)) → ((b : List ℕ) → o ≡ some b → Sound (units b)) → TextSound o
+sound-of : (o : Option (List ℕ)) → ((b : List ℕ) → o ≡ some b → SoundText (units b)) → TextSound o
 sound-of none h = tt
 sound-of (some b) h = sound-exactly (units b) .1 (h b refl)
 

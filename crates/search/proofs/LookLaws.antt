@@ -15,7 +15,7 @@ use Rattle.paragraph.specs.Stream.{recordsIn}
 use Rattle.paragraph.specs.Rules.{countsOf}
 use Rattle.paragraph.specs.Places.{foundIn, bodyOf}
 use Rattle.paragraph.proofs.StreamLaws.{Read}
-use Rattle.search.specs.Searching.{spanOf, paragraphAt, bareIn, bareOr, lookOf, metBy}
+use Rattle.search.specs.Steps.{spanOf, paragraphAt, bareIn, bareOr, lookOf, metBy}
 use Rattle.search.specs.declared.passing.Span.{Span}
 use Rattle.search.specs.declared.passing.Paragraph.{Paragraph}
 use Rattle.search.specs.declared.passing.Look.the-variants as L
@@ -31,7 +31,7 @@ look-empty number at rs e = rw e
 
 -- a paragraph, number by number
 same-paragraph : {number l l′ n n′ m m′ : ℕ} {h b b′ f f′ : Offset} → l ≡ l′ → b ≡ b′ → f ≡ f′ → n ≡ n′ → m ≡ m′
-    → _≡_ {A = Paragraph} (record { number = number; header = h; level = l; behind = b; text = f; length = n; marks = m }) (record { number = number; header = h; level = l′; behind = b′; text = f′; length = n′; marks = m′ })
+    → _≡_ {A = Paragraph} (record { number = number; header = h; level = l; behind = b; text = f; len = n; marks = m }) (record { number = number; header = h; level = l′; behind = b′; text = f′; len = n′; marks = m′ })
 same-paragraph e f g h i = rw (e, f, g, h, i)
 
 -- the record r at `at`
@@ -67,13 +67,13 @@ module _ {s : List ℕ} {at : ℕ} {r : Record} (number : ℕ) (d : Read s at r)
 
   pub look-paragraph : (text : Span) (marks : ℕ) → text ≡ spanOf (foundIn (r .level + 1) 67 0 (r .next .0) (recordsIn (drop (r .next .0) s)))
       → r .tag ≡ 66 → bareIn (r .level + 1) (r .next .0) (recordsIn (drop (r .next .0) s)) ≡ U.Other → marks ≡ little 2 (drop 14 (bodyOf s r))
-      → L.Paragraph (record { number = number; header = offset at; level = r .level + 1; behind = r .next; text = text .from; length = text .length; marks = marks })
+      → L.Paragraph (record { number = number; header = offset at; level = r .level + 1; behind = r .next; text = text .from; len = text .len; marks = marks })
       ≡ lookOf number at (recordsIn (drop at s))
   unfolding countsOf
   look-paragraph text marks e t o m =
       let text-is : text ≡ spanOf (foundIn (suc (d .rec .level)) 67 0 (at + size (d .rec)) rs) = e ∙ ap₂ (λ (l b : ℕ). spanOf (foundIn l 67 0 b rs)) level-is (d .next-is) in
       ap L.Paragraph
-      (same-paragraph level-is behind-is (ap (λ (x : Span). x .from) text-is) (ap (λ (x : Span). x .length) text-is) (m ∙ ap (λ (b : List ℕ). little 2 (drop 14 b)) (d .body-is)))
+      (same-paragraph level-is behind-is (ap (λ (x : Span). x .from) text-is) (ap (λ (x : Span). x .len) text-is) (m ∙ ap (λ (b : List ℕ). little 2 (drop 14 b)) (d .body-is)))
       ∙ looked U.Other t o
 
 -- ---- what was met with a step

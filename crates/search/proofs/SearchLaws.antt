@@ -17,8 +17,9 @@ use Rattle.records.specs.Reading.{offset}
 use Rattle.records.specs.declared.fault.Offset.{Offset}
 use Rattle.records.specs.declared.header.Record.{Record}
 use Rattle.text.specs.Units.{units}
-use Rattle.text.specs.Walk.{what, Token, tokens, tokensAt, isExtended, extendedIn, extendedCount, fault, faultAt, textFault, run}
-use Rattle.text.specs.Answers.{place as position}
+use Rattle.text.specs.Asked.{what}
+use Rattle.text.specs.Walk.{Token, tokens, tokensAt, isExtended, extendedIn, extendedCount, fault, faultAt, textFault, run}
+use Rattle.text.specs.Answers.{position}
 use Rattle.text.specs.declared.Class.{Class}
 use Rattle.text.specs.declared.Class.the-variants.{Character, Inline, Extended}
 use Rattle.text.specs.declared.Control.{Control}
@@ -50,7 +51,8 @@ use Rattle.filling.proofs.SearchLaws.{hits-here, hits-past}
 use Rattle.search.specs.Accepted.{Keep}
 use Rattle.search.proofs.FitLaws.{TextSound, Fit, fit}
 use Rattle.search.proofs.BareLaws.{bared, no-fields}
-use Rattle.search.specs.Searching.{closingOf, unseen, seenOf, begun, spanOf, paragraphAt, bareIn, bareOr, lookOf, hitFrom, told, metNext, metWith, metBy}
+use Rattle.search.specs.Searching.{told, metNext, metWith}
+use Rattle.search.specs.Steps.{closingOf, unseen, seenOf, begun, spanOf, paragraphAt, bareIn, bareOr, lookOf, hitFrom, metBy}
 use Rattle.search.specs.declared.seek.Hit as told-hit
 use Rattle.search.specs.declared.seek.Met.{Met}
 use Rattle.search.specs.declared.seek.Met.the-variants as M
@@ -90,8 +92,8 @@ searching-end k e = sym (k .rest ∙ rw e)
 
 -- the bytes of a span are the text among the children at a level of records that begin at `behind`
 pub record TextAt (s : List ℕ) (level behind : ℕ) (rs : List Rec) (g : Span) : Type 0 where
-  pub inside : g .from .0 + g .length ≤ length s
-  pub units-are : units (take (g .length) (drop (g .from .0) s)) ≡ units (bytesIn (child 67 (kids level rs)))
+  pub inside : g .from .0 + g .len ≤ length s
+  pub units-are : units (take (g .len) (drop (g .from .0) s)) ≡ units (bytesIn (child 67 (kids level rs)))
   pub place-is : g .from .0 ≡ firstByte (foundIn level 67 0 behind rs)
 
 module _ (s : List ℕ) (bs : Bytes s) (level at : ℕ) where
@@ -161,7 +163,7 @@ pub record Entered (s : List ℕ) (id : ℕ) (met : Met) (g : Paragraph) (at num
   pub rises : at < g .behind .0
   pub inside : g .behind .0 ≤ length s
   pub number-is : g .number ≡ number
-  pub begins : Walking s id g (take (g .length) (drop (g .text .0) s)) met 0 (begun (g .behind))
+  pub begins : Walking s id g (take (g .len) (drop (g .text .0) s)) met 0 (begun (g .behind))
 
 module _ {s : List ℕ} {id number at : ℕ} {met : Met} (bs : Bytes s) (k : Searching s id met number at) where
   -- the paragraph header r at `at`
@@ -185,7 +187,7 @@ module _ {s : List ℕ} {id number at : ℕ} {met : Met} (bs : Bytes s) (k : Sea
             rs-is = q;
             is = refl;
             units-are = x .units-are;
-            short = omega (arith, length-take (spanOf (foundIn level 67 0 go rs) .length) (drop (spanOf (foundIn level 67 0 go rs) .from .0) s), length-drop (spanOf (foundIn level 67 0 go rs) .from .0) s);
+            short = omega (arith, length-take (spanOf (foundIn level 67 0 go rs) .len) (drop (spanOf (foundIn level 67 0 go rs) .from .0) s), length-drop (spanOf (foundIn level 67 0 go rs) .from .0) s);
             fits = all .1;
             few = k .few;
           };

@@ -11,6 +11,6 @@ abbrev pub Keep : List Rec → Type 0
 Keep rs = AllKeep rs
 
 -- the stream is its records, and they keep the paragraphs' rules
-pub record Sound (s : List ℕ) : Type 0 where
+pub record Searchable (s : List ℕ) : Type 0 where
   pub whole : encode (recordsIn s) ≡ s
   pub keep : Keep (recordsIn s)

@@ -15,7 +15,7 @@ ghost use Rattle.numbers.specs.Little.{little};
 ghost use Rattle.records.specs.Kinds as kind;
 ghost use Rattle.paragraph.specs.Stream.{recordsIn};
 ghost use Rattle.paragraph.specs.Places.{foundIn};
-ghost use Rattle.search.specs.Searching.{spanOf, partOf, bareIn, lookOf};
+ghost use Rattle.search.specs.Steps.{spanOf, partOf, bareIn, lookOf};
 
 // A paragraph: its number, the place of its header, the level of its children, where they begin, the first byte of its text and how many
 // bytes that has, and its number of marks.
@@ -25,7 +25,7 @@ pub struct Paragraph {
     pub level: u32,
     pub behind: Offset,
     pub text: Offset,
-    pub length: usize,
+    pub len: usize,
     pub marks: u32,
 }
 
@@ -46,7 +46,7 @@ pub enum Until {
 // The bytes of a text.
 pub struct Span {
     pub from: Offset,
-    pub length: usize,
+    pub len: usize,
 }
 
 // The text among the children at level n of a paragraph, behind whose header the records begin at `behind`.
@@ -56,14 +56,11 @@ fn text_of(s: &[u8], behind: Offset, n: u32) -> Span
     match find(s, behind, n, Kind::TEXT, 0) {
         Found::Nothing => Span {
             from: Offset(0),
-            length: 0,
+            len: 0,
         },
         Found::At(r) => {
             let from = r.body;
-            Span {
-                from,
-                length: r.length,
-            }
+            Span { from, len: r.len }
         }
     }
 }
@@ -146,7 +143,7 @@ pub fn look_at(s: &[u8], number: usize, at: Offset) -> Look
         level,
         behind,
         text,
-        length: span.length,
+        len: span.len,
         marks: marks_in(body(s, r)),
     })
 }

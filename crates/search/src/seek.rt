@@ -30,8 +30,9 @@ ghost use Rattle.paragraph.specs.Rules.{ownerOf};
 ghost use Rattle.paragraph.specs.declared.fields.Owned.the-variants as K;
 ghost use Rattle.filling.specs.Fields.{idIn, next};
 ghost use Rattle.filling.specs.Search.{hits};
-ghost use Rattle.search.specs.Searching.{closingOf, closingBy, seenOf, begun, hitFrom, metBy, metWith, sectionSearch};
-ghost use Rattle.search.specs.Searching as Searching;
+ghost use Rattle.search.specs.Searching.{metWith, sectionSearch};
+ghost use Rattle.search.specs.Steps.{closingOf, closingBy, seenOf, begun, hitFrom, metBy};
+ghost use Rattle.search.specs.Steps as Steps;
 ghost use Rattle.search.specs.Accepted.{Keep};
 
 // A field: how many extended controls stand before it, the position behind its control, that of the next unit below 32, and whether
@@ -158,7 +159,7 @@ fn own(s: &[u8], id: u32, passed: Passed, r: Record) -> Seen
 
 // A step that is no field with the id.
 fn unseen(passed: Passed) -> Seen
-    ensures { λ r. ⌜ r ≡ Searching.unseen passed ⌝ }
+    ensures { λ r. ⌜ r ≡ Steps.unseen passed ⌝ }
 {
     Seen {
         passed,
@@ -198,10 +199,10 @@ fn begin(behind: Offset) -> Passed
 
 // The bytes of a paragraph's text.
 fn text_in<'a>(s: &'a [u8], g: Paragraph) -> &'a [u8]
-    ensures { λ r. ⌜ now r ≡ take (g .length) (drop (g .text .0) (now (s .entry))) ⌝ }
+    ensures { λ r. ⌜ now r ≡ take (g .len) (drop (g .text .0) (now (s .entry))) ⌝ }
 {
     let from = g.text;
-    part(s, from.0, g.length)
+    part(s, from.0, g.len)
 }
 
 // The field of a paragraph behind whose control, which owns the control header at `control`, the walk stands at a.

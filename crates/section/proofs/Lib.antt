@@ -1,3 +1,4 @@
 pub mod SeatLaws
 pub mod StrayLaws
 pub mod SectionLaws
+pub mod NearLaws

@@ -9,8 +9,10 @@ use mathlib.Core.List.{List, [], _∷_}
 use lib.Dec.{ltb, leb, eqb}
 use borrow.Author.Tests.{lt-ltb, le-ltb, le-leb, lt-leb, eq-eqb, ne-eqb, leb-true, eqb-true, eqb-false}
 use Rattle.records.specs.Records.{Rec}
+use Rattle.records.specs.Parents.{parentOf}
+use Rattle.records.proofs.ParentLaws.{parent-skip, parent-here}
 use Rattle.text.proofs.Cases.{eq-or}
-use Rattle.section.specs.Parents.{parentOf, doubled, leaf, header, parentIs, misplaced}
+use Rattle.section.specs.Parents.{doubled, leaf, header, parentIs, misplaced}
 use Rattle.section.specs.Seats.{ownCode, bitOf, has, seatLeaf, seatOf}
 use Rattle.section.specs.declared.parents.Seat.{Seat}
 use Rattle.section.specs.declared.parents.Seat.the-variants as T
@@ -115,17 +117,9 @@ bits-none shapes = refl
 bits-none layout = refl
 bits-none marks = refl
 
--- ---- the clauses of parent and doubled
+-- ---- the clauses of doubled
 
 module _ (level : ℕ) (r : Rec) (e : List Rec) where
-  pub parent-skip : level ≤ r .level → parentOf level (r ∷ e) ≡ parentOf level e
-  unfolding parentOf
-  parent-skip h = rw (le-ltb (r .level) level h)
-
-  pub parent-here : r .level < level → parentOf level (r ∷ e) ≡ r ∷ e
-  unfolding parentOf
-  parent-here h = rw (lt-ltb (r .level) level h)
-
   doubled-skip : (t : ℕ) → level < r .level → doubled t level (r ∷ e) ≡ doubled t level e
   unfolding doubled
   doubled-skip t h = rw (le-ltb (r .level) level (omega arith), ne-eqb (r .level) level (λ q. omega arith))

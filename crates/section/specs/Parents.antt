@@ -1,4 +1,4 @@
--- Parents, and where records 67 to 70 may stand (document 01, 'Records' and 'Paragraphs'). Earlier records are given the nearest first.
+-- Where records 67 to 70 may stand (document 01, 'Paragraphs'). Earlier records are given the nearest first.
 use Prim.Native.Nat.{ℕ, _+_}
 use mathlib.Core.Bool.{Bool, true, false, cond, _&&_, _||_, not}
 use mathlib.Core.Option.{Option, none, some}
@@ -6,14 +6,10 @@ use mathlib.Core.List.{List, [], _∷_}
 use lib.Dec.{ltb, leb, eqb}
 use Rattle.records.specs.Kinds as kind
 use Rattle.records.specs.Records.{Rec, size}
-
--- the parent of a record at a level, the nearest earlier record of smaller level, with those before it; nothing where there is none
-unfoldable pub parentOf : ℕ → List Rec → List Rec
-parentOf level [] = []
-parentOf level (p ∷ before) = cond (ltb (p .level) level) (p ∷ before) (parentOf level before)
+use Rattle.records.specs.Parents.{parentOf}
 
 -- an earlier record with the same parent has the tag: by the level rule the children of one parent have one level, and no record of
--- smaller level stands between them
+-- smaller level stands between them (`doubled-sibling` and `sibling-doubled` in acceptance/proofs/SiblingLaws.antt)
 unfoldable pub doubled : ℕ → ℕ → List Rec → Bool
 doubled tag level [] = false
 doubled tag level (q ∷ before) = cond (ltb (q .level) level) false ((eqb (q .level) level && eqb (q .tag) tag) || doubled tag level before)
@@ -30,7 +26,8 @@ abbrev pub parentIs : (ℕ → Bool) → List Rec → Bool
 parentIs which [] = false
 parentIs which (p ∷ before) = which (p .tag)
 
--- records 67 to 70 must be children of a 66, at most one of each, and have no children (for a parent, its first child is named)
+-- records 67 to 70 must be children of a 66, at most one of each, and have no children (for a parent, its first child is named). That this is
+-- said of the parent as document 01 has it is `placed-exactly` in acceptance/proofs/SectionReader.antt
 unfoldable pub misplaced : Rec → List Rec → Bool
 misplaced r earlier =
     parentIs leaf (parentOf (r .level) earlier)

@@ -1,5 +1,7 @@
--- What the pass of rule 9 keeps for each level, as one number: 32 below a record 67 to 70, 16 below any other record that is no
--- paragraph header, and below a paragraph header one bit for each of 67 to 70 that it has already.
+-- A mirror of the code of rule 9's pass, of which nothing has to be believed: `seating` (proofs/SeatLaws.antt) says that a record takes its seat
+-- exactly where `misplaced`, by `parentOf`, does not name it. The pass promises `strayFrom`; of this file only `strayOf` stands in that promise.
+-- The pass keeps one number for each level: 32 below a record 67 to 70, 16 below any other record that is no paragraph header, and below a
+-- paragraph header one bit for each of 67 to 70 that it has already.
 use Prim.Native.Nat.{ℕ, _+_, _/_, _%_}
 use mathlib.Core.Bool.{Bool, true, false, cond}
 use mathlib.Core.Option.{Option, none, some}

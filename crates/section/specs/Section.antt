@@ -42,7 +42,8 @@ abbrev pub strayOr : Option ℕ → Option Refusal → Option Refusal
 strayOr none rest = rest
 strayOr (some p) rest = some (refusal F.Misplaced p)
 
--- 9 over all records, then each paragraph
+-- 9 over all records, then each paragraph. Nothing is at fault exactly where document 01's sentences hold: `obeys-exactly` in
+-- acceptance/proofs/SectionReader.antt
 unfoldable pub sectionFault : List Rec → Option Refusal
 sectionFault rs = strayOr (strayFrom 0 [] rs) (paragraphsFault 0 rs)
 

@@ -20,7 +20,7 @@ ghost use mathlib.Core.Path.{_≡_};
 ghost use mathlib.Core.List.{[]};
 ghost use lib.ListN.{drop};
 ghost use Rattle.records.specs.Reading.{readAll};
-ghost use Rattle.records.specs.Table.{entered, Table, shortest};
+ghost use Rattle.records.specs.Promise.{Promised};
 ghost use Rattle.paragraph.specs.Stream.{recordsIn};
 ghost use Rattle.section.specs.Parents.{strayFrom};
 ghost use Rattle.section.specs.Section.{findingOf, paragraphsFault, strayOr, settled, sectionAnswer, checkAnswer};
@@ -86,8 +86,7 @@ pub fn read_section(
     places: &mut [u32],
     lengths: &mut [u32],
 ) -> Answer
-    ensures answer { λ r. ⌜ r ≡ sectionAnswer (now (s .entry)) (shortest (now (tags .entry)) (now (levels .entry)) (now (places .entry)) (now (lengths .entry))) ⌝ }
-    ensures table { λ r. ⌜ Table (entered r (readAll (now (s .entry)) .recs)) (now (tags .entry)) (now (tags .exit)) (now (levels .entry)) (now (levels .exit)) (now (places .entry)) (now (places .exit)) (now (lengths .entry)) (now (lengths .exit)) ⌝ }
+    ensures { λ r. ⌜ Promised sectionAnswer (now (s .entry)) (now (tags .entry)) (now (levels .entry)) (now (places .entry)) (now (lengths .entry)) r (now (tags .exit)) (now (levels .exit)) (now (places .exit)) (now (lengths .exit)) ⌝ }
 {
     match answer_within(s, room(tags, levels, places, lengths)) {
         Answer::Accepted(_) => read(s, tags, levels, places, lengths),

@@ -6,7 +6,8 @@ use mathlib.Core.Logic.{_↔_, inl, inr}
 use mathlib.Core.Option.{Option, none, some}
 use mathlib.Core.List.{List, [], _∷_, _++_}
 use lib.ListN.{length, getD, take, drop, length-drop}
-use Rattle.text.specs.Walk.{control, tokensAt, AllOrdinary, faultAt, run, extendedIn}
+use Rattle.text.specs.Asked.{control}
+use Rattle.text.specs.Walk.{tokensAt, AllOrdinary, faultAt, run, extendedIn}
 use Rattle.text.specs.Answers.{controlAt}
 use Rattle.text.specs.declared.Position.{Position}
 use Rattle.text.specs.declared.Cursor.{Cursor}

@@ -6,7 +6,8 @@ use mathlib.Core.Path.{_≡_, refl, sym, ap, _∙_}
 use mathlib.Core.Logic.{_⊎_, inl, inr}
 use mathlib.Core.List.{List, [], _∷_, _++_, map}
 use lib.ListN.{length, drop, length-append, List·getD-append}
-use Rattle.text.specs.Walk.{what, width, Token, walk, tokens, AllOrdinary, isExtended, extendedIn, extendedCount, Sound, single}
+use Rattle.text.specs.Asked.{what, width, SoundText, single}
+use Rattle.text.specs.Walk.{Token, walk, tokens, AllOrdinary, isExtended, extendedIn, extendedCount}
 use Rattle.text.specs.declared.Standing.the-variants.{Ordinary}
 use Rattle.text.proofs.TableLaws.{what-ordinary}
 use Rattle.text.proofs.WalkLaws.{width-pos}
@@ -128,23 +129,23 @@ extended-kept x y z w h oy ow =
 
 -- ---- and the text stays sound
 
-sound-rest : (k : ℕ) (x s : List ℕ) → leftOver k x ≡ 0 → 0 < length s → Sound (drop k (x ++ s)) → Sound s
+sound-rest : (k : ℕ) (x s : List ℕ) → leftOver k x ≡ 0 → 0 < length s → SoundText (drop k (x ++ s)) → SoundText s
 unfolding leftOver
 sound-rest k [] s e h g = rw e at g
 sound-rest zero (u ∷ x) s e h g = go (unrolled u (x ++ s) g) (sound-rest (width (what u) - 1) x s e h)
   where
-    go : ((u ≡ 13) × (x ++ s ≡ [])) ⊎ Begins u (x ++ s) → (Sound (drop (width (what u) - 1) (x ++ s)) → Sound s) → Sound s
+    go : ((u ≡ 13) × (x ++ s ≡ [])) ⊎ Begins u (x ++ s) → (SoundText (drop (width (what u) - 1) (x ++ s)) → SoundText s) → SoundText s
     go (inl l) on = absurd (omega (arith, ap length (l .1), length-append x s))
     go (inr b) on = on (rw (drop-behind (width (what u)) u (x ++ s) (width-pos (what u))) at (b .rest))
 sound-rest (suc k) (u ∷ x) s e h g = sound-rest k x s e h g
 
-sound-front : (k : ℕ) (x s s′ : List ℕ) → leftOver k x ≡ 0 → 0 < length s → Sound (drop k (x ++ s)) → Sound s′ → Sound (drop k (x ++ s′))
+sound-front : (k : ℕ) (x s s′ : List ℕ) → leftOver k x ≡ 0 → 0 < length s → SoundText (drop k (x ++ s)) → SoundText s′ → SoundText (drop k (x ++ s′))
 unfolding leftOver
 sound-front k [] s s′ e h g g′ = rw e g′
 sound-front zero (u ∷ x) s s′ e h g g′ = go (unrolled u (x ++ s) g) (λ r. sound-front (width (what u) - 1) x s s′ e h r g′)
   where
     go : ((u ≡ 13) × (x ++ s ≡ [])) ⊎ Begins u (x ++ s)
-        → (Sound (drop (width (what u) - 1) (x ++ s)) → Sound (drop (width (what u) - 1) (x ++ s′))) → Sound (u ∷ (x ++ s′))
+        → (SoundText (drop (width (what u) - 1) (x ++ s)) → SoundText (drop (width (what u) - 1) (x ++ s′))) → SoundText (u ∷ (x ++ s′))
     go (inl l) on = absurd (omega (arith, ap length (l .1), length-append x s))
     go (inr b) on =
         let n : width (what u) - 1 < length (u ∷ x) = omega (arith, left-ge (width (what u) - 1) x) in
@@ -158,13 +159,13 @@ sound-front zero (u ∷ x) s s′ e h g g′ = go (unrolled u (x ++ s) g) (λ r.
         })
 sound-front (suc k) (u ∷ x) s s′ e h g g′ = sound-front k x s s′ e h g g′
 
-sound-ordinary : (w s : List ℕ) → AllOrdinary w → Sound s → Sound (w ++ s)
+sound-ordinary : (w s : List ℕ) → AllOrdinary w → SoundText s → SoundText (w ++ s)
 sound-ordinary [] s o g = g
 sound-ordinary (u ∷ w) s o g =
     single {u = u} (ap width (what-ordinary u (o .0))) (λ e. omega (arith, o .0)) (λ e. omega (arith, o .0)) (sound-ordinary w s (o .1) g)
 
 pub sound-kept : (x y z w : List ℕ) → leftOver 0 x ≡ 0 → AllOrdinary y → AllOrdinary w → 0 < length z
-    → Sound (x ++ (y ++ z)) → Sound (x ++ (w ++ z))
+    → SoundText (x ++ (y ++ z)) → SoundText (x ++ (w ++ z))
 sound-kept x y z w e oy ow h g =
     let l : 0 < length (y ++ z) = omega (arith, length-append y z) in
     sound-front 0 x (y ++ z) (w ++ z) e l g

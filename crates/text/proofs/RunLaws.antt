@@ -10,7 +10,9 @@ use lib.Dec.{leb}
 use lib.ListN.{length, getD, take, drop, length-drop, length-append, drop-of-length-le, take-append-drop}
 use lib.Seq.{drop-cons, drop-drop, getD-drop, length-take-le, take-all}
 use borrow.Author.Tests.{lt-ltb, le-ltb, le-leb, leb-true, eq-eqb, ne-eqb}
-use Rattle.text.specs.Walk.{stands, broken, frontOf, front, walk, tokensAt, AllOrdinary, fault, faultAt, run, fourOrdinary, extendedIn}
+use Rattle.text.specs.Asked.{width}
+use Rattle.text.specs.Walk.{stands, broken, takes, frontOf, sight, front, walk, tokensAt, AllOrdinary, fault, faultAt, run, extendedIn}
+use Rattle.text.specs.Mirror.{fourOrdinary}
 use Rattle.text.specs.declared.Standing.the-variants.{Ordinary}
 use Rattle.text.proofs.Cases.{lt-or}
 use Rattle.text.proofs.TableLaws.{what-ordinary}
@@ -57,13 +59,14 @@ run-all us = (λ e. rw (take-all (run us) us (omega arith)) at (ran us .ordinary
 ordinary-front : (u : ℕ) (us : List ℕ) → 32 ≤ u → 0 < length us → front (u ∷ us) ≡ stands (Ordinary u)
 ordinary-front u us h l =
     let w = what-ordinary u h in
+    let one : takes (sight u us) ≡ 1 = ap width w in
     stands-front u us
-    (rw w (record {
+    (record {
       known = λ e. omega (arith, e, h);
-      whole = omega arith;
-      closed = refl;
-      ends = inr (λ e. omega (arith, e, h), omega arith);
-    }))
+      whole = omega (arith, one);
+      closed = rw w;
+      ends = inr (λ e. omega (arith, e, h), omega (arith, one));
+    })
     ∙ ap stands w
 
 fault-behind : (p : ℕ) (x y : List ℕ) → AllOrdinary x → 0 < length y → fault p 0 (x ++ y) ≡ fault (p + length x) 0 y

@@ -3,15 +3,16 @@ use Prim.Native.Nat.{ℕ, zero, suc, _+_, _-_, _≤_, _<_}
 use native.Mathlib.Omega.{arith}
 use mathlib.Core.Path.{_≡_, refl, sym, ap, _∙_}
 use mathlib.Core.Logic.{_⊎_, inl, inr}
-use mathlib.Core.Bool.{Bool, true, false, cond, not}
+use mathlib.Core.Bool.{Bool, true, false, cond, _&&_, not}
 use mathlib.Core.Option.{none, some}
 use mathlib.Core.List.{List, [], _∷_}
 use lib.Dec.{ltb, eqb}
 use lib.ListN.{length, getD, drop, length-drop, drop-of-length-le}
 use lib.Seq.{drop-cons, drop-drop, drop-nil, getD-drop}
 use borrow.Author.Tests.{le-ltb, eq-eqb, ne-eqb, ltb-false, eqb-true, eqb-false, not-false}
-use Rattle.text.specs.Walk.{what, width, Front, stands, broken, over, frontOf, front, Token, walk, tokensAt, fault, faultAt}
-use Rattle.text.specs.Answers.{place, stepOf, stepAt}
+use Rattle.text.specs.Asked.{what, width}
+use Rattle.text.specs.Walk.{Front, stands, broken, over, Sight, takes, frontOf, sight, front, Token, walk, tokensAt, fault, faultAt}
+use Rattle.text.specs.Answers.{position, stepOf, stepAt}
 use Rattle.text.specs.declared.Standing.{Standing}
 use Rattle.text.specs.declared.Position.{Position}
 use Rattle.text.specs.declared.Cursor.{Cursor}
@@ -21,58 +22,78 @@ use Rattle.text.proofs.TableLaws.{width-or}
 
 -- ---- what stands at the front
 
--- what `frontOf` asks, read off the whole text
-pub front-at : (us : List ℕ) (p : ℕ) → p < length us
-    → front (drop p us) ≡ frontOf (getD us p 0) (width (what (getD us p 0))) (length us - p) (getD us (p + (width (what (getD us p 0)) - 1)) 0)
+-- what a step at position p has before it
+abbrev pub sightAt : List ℕ → ℕ → Sight
+sightAt us p = record { unit = getD us p 0; left = length us - p; last = getD us (p + (width (what (getD us p 0)) - 1)) 0 }
+
+pub front-at : (us : List ℕ) (p : ℕ) → p < length us → front (drop p us) ≡ frontOf (sightAt us p)
 unfolding front
 front-at us p h =
     go (drop p us) (drop-cons us p 0 h) (simp length-drop (omega arith)) (λ i. getD-drop p us i 0)
   where
     go : (l : List ℕ) → l ≡ getD us p 0 ∷ drop (suc p) us → suc (length (drop (suc p) us)) ≡ length us - p
-        → ((i : ℕ) → getD l i 0 ≡ getD us (p + i) 0)
-        → front l ≡ frontOf (getD us p 0) (width (what (getD us p 0))) (length us - p) (getD us (p + (width (what (getD us p 0)) - 1)) 0)
+        → ((i : ℕ) → getD l i 0 ≡ getD us (p + i) 0) → front l ≡ frontOf (sightAt us p)
     go l e n at = rw e (rw (n, ← at, ← e))
 
 -- a token stands: its unit is not 0, it is whole and ends with its own code, and it is a 13 exactly at the end
-pub record Stood (u n left last : ℕ) : Type 0 where
-  pub known : u ≡ 0 → ⊥
-  pub whole : n ≤ left
-  pub closed : last ≡ u
-  pub ends : ((u ≡ 13) × (left ≡ n)) ⊎ ((u ≡ 13 → ⊥) × (n < left))
+pub record Stood (k : Sight) : Type 0 where
+  pub known : k .unit ≡ 0 → ⊥
+  pub whole : takes k ≤ k .left
+  pub closed : k .last ≡ k .unit
+  pub ends : ((k .unit ≡ 13) × (k .left ≡ takes k)) ⊎ ((k .unit ≡ 13 → ⊥) × (takes k < k .left))
 
-pub stood-front : (u n left last : ℕ) → Stood u n left last → frontOf u n left last ≡ stands (what u)
+-- the end of a text, as `frontOf` judges it last
+abbrev pub endOf : Sight → Front
+endOf k =
+    cond (eqb (k .left) (takes k) && not (eqb (k .unit) 13)) (broken (takes k))
+    (cond (eqb (k .unit) 13 && not (eqb (k .left) (takes k))) (broken 0) (stands (what (k .unit))))
+
+pub stood-front : (k : Sight) → Stood k → frontOf k ≡ stands (what (k .unit))
 unfolding frontOf
-stood-front u n left last h = rw (ne-eqb u 0 (h .known), le-ltb left n (h .whole), eq-eqb last u (h .closed)) (go (h .ends))
+stood-front k h =
+    rw (ne-eqb (k .unit) 0 (h .known), le-ltb (k .left) (takes k) (h .whole), eq-eqb (k .last) (k .unit) (h .closed)) (go (h .ends))
   where
-    go : ((u ≡ 13) × (left ≡ n)) ⊎ ((u ≡ 13 → ⊥) × (n < left))
-        → cond (eqb left n) (cond (eqb u 13) (stands (what u)) (broken n)) (cond (eqb u 13) (broken 0) (stands (what u))) ≡ stands (what u)
-    go (inl e) = rw (eq-eqb left n (e .1), eq-eqb u 13 (e .0))
-    go (inr e) = rw (ne-eqb left n (λ q. omega (arith, q, e .1)), ne-eqb u 13 (e .0))
+    go : ((k .unit ≡ 13) × (k .left ≡ takes k)) ⊎ ((k .unit ≡ 13 → ⊥) × (takes k < k .left)) → endOf k ≡ stands (what (k .unit))
+    go (inl e) = rw (eq-eqb (k .left) (takes k) (e .1), eq-eqb (k .unit) 13 (e .0))
+    go (inr e) = rw (ne-eqb (k .left) (takes k) (λ q. omega (arith, q, e .1)), ne-eqb (k .unit) 13 (e .0))
 
 passes : (t : Bool) (d : ℕ) (rest : Front) (s : Standing) → cond t (broken d) rest ≡ stands s → (t ≡ false) × (rest ≡ stands s)
 passes true d rest s e = absurd (let z : _≡_ {A = ℕ} 0 1 = cc in omega arith)
 passes false d rest s e = (refl, e)
 
-front-stood : (u n left last : ℕ) (s : Standing) → frontOf u n left last ≡ stands s → Stood u n left last × (s ≡ what u)
+front-stood : (k : Sight) (s : Standing) → frontOf k ≡ stands s → Stood k × (s ≡ what (k .unit))
 unfolding frontOf
-front-stood u n left last s e =
-    let a = passes (eqb u 0) 0 _ s e in
-    let b = passes (ltb left n) 0 _ s (a .1) in
-    let c = passes (not (eqb last u)) (n - 1) _ s (b .1) in
-    let whole = ltb-false left n (b .0) in
-    let f = end whole (c .1) in
-    (record { known = eqb-false u 0 (a .0); whole = whole; closed = eqb-true last u (not-false (eqb last u) (c .0)); ends = f .0 }, f .1)
+front-stood k s e =
+    let a = passes (eqb (k .unit) 0) 0 _ s e in
+    let b = passes (ltb (k .left) (takes k)) 0 _ s (a .1) in
+    let c = passes (not (eqb (k .last) (k .unit))) (takes k - 1) _ s (b .1) in
+    let whole = ltb-false (k .left) (takes k) (b .0) in
+    let f = end whole (c .1) in (
+      record {
+        known = eqb-false (k .unit) 0 (a .0);
+        whole = whole;
+        closed = eqb-true (k .last) (k .unit) (not-false (eqb (k .last) (k .unit)) (c .0));
+        ends = f .0;
+      },
+      f .1,
+    )
   where
-    end : n ≤ left → cond (eqb left n) (cond (eqb u 13) (stands (what u)) (broken n)) (cond (eqb u 13) (broken 0) (stands (what u))) ≡ stands s
-        → (((u ≡ 13) × (left ≡ n)) ⊎ ((u ≡ 13 → ⊥) × (n < left))) × (s ≡ what u)
-    end w g = elim (eq-or left n) [
-      | inl l ↦ elim (eq-or u 13) [
-        | inl x ↦ (let q : stands (what u) ≡ stands s = rw (eq-eqb left n l, eq-eqb u 13 x) at g in (inl (x, l), cc))
-        | inr x ↦ (let q : broken n ≡ stands s = rw (eq-eqb left n l, ne-eqb u 13 x) at g in absurd (let z : _≡_ {A = ℕ} 0 1 = cc in omega arith))
+    end : takes k ≤ k .left → endOf k ≡ stands s
+        → (((k .unit ≡ 13) × (k .left ≡ takes k)) ⊎ ((k .unit ≡ 13 → ⊥) × (takes k < k .left))) × (s ≡ what (k .unit))
+    end w g = elim (eq-or (k .left) (takes k)) [
+      | inl l ↦ elim (eq-or (k .unit) 13) [
+        | inl x ↦ (let q : stands (what (k .unit)) ≡ stands s = rw (eq-eqb (k .left) (takes k) l, eq-eqb (k .unit) 13 x) at g in (inl (x, l), cc))
+        | inr x ↦
+            (let q : broken (takes k) ≡ stands s = rw (eq-eqb (k .left) (takes k) l, ne-eqb (k .unit) 13 x) at g in
+            absurd (let z : _≡_ {A = ℕ} 0 1 = cc in omega arith))
       ]
-      | inr l ↦ elim (eq-or u 13) [
-        | inl x ↦ (let q : broken 0 ≡ stands s = rw (ne-eqb left n l, eq-eqb u 13 x) at g in absurd (let z : _≡_ {A = ℕ} 0 1 = cc in omega arith))
-        | inr x ↦ (let q : stands (what u) ≡ stands s = rw (ne-eqb left n l, ne-eqb u 13 x) at g in (inr (x, omega arith), cc))
+      | inr l ↦ elim (eq-or (k .unit) 13) [
+        | inl x ↦
+            (let q : broken 0 ≡ stands s = rw (ne-eqb (k .left) (takes k) l, eq-eqb (k .unit) 13 x) at g in
+            absurd (let z : _≡_ {A = ℕ} 0 1 = cc in omega arith))
+        | inr x ↦
+            (let q : stands (what (k .unit)) ≡ stands s = rw (ne-eqb (k .left) (takes k) l, ne-eqb (k .unit) 13 x) at g in
+            (inr (x, omega arith), cc))
       ]
     ]
 
@@ -89,33 +110,32 @@ broken-left d e = let z : _≡_ {A = ℕ} 0 1 = cc in omega arith
 stands-left : (s : Standing) → Left (stands s)
 stands-left s e = let z : _≡_ {A = ℕ} 0 1 = cc in omega arith
 
-some-left : (u n left last : ℕ) → Left (frontOf u n left last)
+some-left : (k : Sight) → Left (frontOf k)
 unfolding frontOf
-some-left u n left last =
-    either Left (eqb u 0) (broken-left 0)
-    (either Left (ltb left n) (broken-left 0)
-    (either Left (not (eqb last u)) (broken-left (n - 1))
-    (either Left (eqb left n)
-    (either Left (eqb u 13) (stands-left (what u)) (broken-left n))
-    (either Left (eqb u 13) (broken-left 0) (stands-left (what u))))))
+some-left k =
+    either Left (eqb (k .unit) 0) (broken-left 0)
+    (either Left (ltb (k .left) (takes k)) (broken-left 0)
+    (either Left (not (eqb (k .last) (k .unit))) (broken-left (takes k - 1))
+    (either Left (eqb (k .left) (takes k) && not (eqb (k .unit) 13)) (broken-left (takes k))
+    (either Left (eqb (k .unit) 13 && not (eqb (k .left) (takes k))) (broken-left 0) (stands-left (what (k .unit)))))))
 
 -- the same of a unit with the units behind it
 
 abbrev pub Stands : ℕ → List ℕ → Type 0
-Stands u us = Stood u (width (what u)) (suc (length us)) (getD (u ∷ us) (width (what u) - 1) 0)
+Stands u us = Stood (sight u us)
 
 pub stands-front : (u : ℕ) (us : List ℕ) → Stands u us → front (u ∷ us) ≡ stands (what u)
 unfolding front
-stands-front u us = stood-front u (width (what u)) (suc (length us)) (getD (u ∷ us) (width (what u) - 1) 0)
+stands-front u us = stood-front (sight u us)
 
 pub front-stands : (u : ℕ) (us : List ℕ) (s : Standing) → front (u ∷ us) ≡ stands s → Stands u us × (s ≡ what u)
 unfolding front
-front-stands u us = front-stood u (width (what u)) (suc (length us)) (getD (u ∷ us) (width (what u) - 1) 0)
+front-stands u us = front-stood (sight u us)
 
 -- where a unit is left, the text is not over
 pub front-left : (u : ℕ) (us : List ℕ) → front (u ∷ us) ≡ over → ⊥
 unfolding front
-front-left u us = some-left u (width (what u)) (suc (length us)) (getD (u ∷ us) (width (what u) - 1) 0)
+front-left u us = some-left (sight u us)
 
 -- ---- the walk behind a token
 
@@ -193,14 +213,14 @@ onward us p s e =
     }
 
 pub step-stands : (us : List ℕ) (p : ℕ) (a : Position) (s : Standing) (c : Cursor) → stepAt us p ≡ step.Stands a s c
-    → (a ≡ place p) × Onward us p s (c .at .0)
+    → (a ≡ position p) × Onward us p s (c .at .0)
 unfolding stepAt
 step-stands us p a s c e = go (front (drop p us)) refl e
   where
-    go : (f : Front) → front (drop p us) ≡ f → stepOf p f ≡ step.Stands a s c → (a ≡ place p) × Onward us p s (c .at .0)
+    go : (f : Front) → front (drop p us) ≡ f → stepOf p f ≡ step.Stands a s c → (a ≡ position p) × Onward us p s (c .at .0)
     go (stands t) h q =
         let x : t ≡ s = cc in
-        let y : c ≡ record { at = place (p + width t) } = cc in
+        let y : c ≡ record { at = position (p + width t) } = cc in
         (cc, rw (y, ← x) (onward us p t h))
     go (broken d) h q = absurd (let z : _≡_ {A = ℕ} 0 1 = cc in omega arith)
     go over h q = absurd (let z : _≡_ {A = ℕ} 0 1 = cc in omega arith)
@@ -216,7 +236,7 @@ step-broken us p q e = go (front (drop p us)) refl e
   where
     go : (f : Front) → front (drop p us) ≡ f → stepOf p f ≡ step.Broken q → faultAt us p ≡ some (q .0)
     go (stands t) h r = absurd (let z : _≡_ {A = ℕ} 0 1 = cc in omega arith)
-    go (broken d) h r = let x : q ≡ place (p + d) = cc in rw x (fault-front p d (drop p us) h)
+    go (broken d) h r = let x : q ≡ position (p + d) = cc in rw x (fault-front p d (drop p us) h)
     go over h r = absurd (let z : _≡_ {A = ℕ} 0 1 = cc in omega arith)
 
 over-of : (p : ℕ) (f : Front) → stepOf p f ≡ step.End → f ≡ over
@@ -228,7 +248,7 @@ over-of p over e = refl
 pub step-past : (us : List ℕ) (p : ℕ) → stepAt us p ≡ step.End → length us ≤ p
 unfolding stepAt front
 step-past us p e = elim (lt-or p (length us)) [
-  | inl h ↦ absurd (some-left _ _ _ _ (sym (front-at us p h) ∙ over-of p (front (drop p us)) e))
+  | inl h ↦ absurd (some-left (sightAt us p) (sym (front-at us p h) ∙ over-of p (front (drop p us)) e))
   | inr h ↦ h
 ]
 

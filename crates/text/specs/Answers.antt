@@ -4,7 +4,8 @@ use Prim.Native.Nat.{ℕ, _+_}
 use mathlib.Core.Option.{Option, none, some}
 use mathlib.Core.List.{List}
 use lib.ListN.{drop}
-use Rattle.text.specs.Walk.{Front, stands, broken, over, front, width, run, textFault, extendedCount}
+use Rattle.text.specs.Asked.{width}
+use Rattle.text.specs.Walk.{Front, stands, broken, over, front, run, textFault, extendedCount}
 use Rattle.text.specs.declared.Position.{Position}
 use Rattle.text.specs.declared.Cursor.{Cursor}
 use Rattle.text.specs.declared.Step.{Step}
@@ -12,18 +13,21 @@ use Rattle.text.specs.declared.Step.the-variants.{Stands, Broken, End}
 use Rattle.text.specs.declared.Judged.{Judged}
 use Rattle.text.specs.declared.Judged.the-variants as judgement
 
-abbrev pub place : ℕ → Position
-place p = record { 0 = p }
+-- a position of the text, in units
+abbrev pub position : ℕ → Position
+position p = record { 0 = p }
 
+-- the walk at a position
 abbrev pub cursor : ℕ → Cursor
-cursor p = record { at = place p }
+cursor p = record { at = position p }
 
--- the step from position p
+-- the step from position p: 'where it stood and what stands there', and 'the walk at the next position'
 abbrev pub stepOf : ℕ → Front → Step
-stepOf p (stands s) = Stands (place p) s (cursor (p + width s))
-stepOf p (broken d) = Broken (place (p + d))
+stepOf p (stands s) = Stands (position p) s (cursor (p + width s))
+stepOf p (broken d) = Broken (position (p + d))
 stepOf p over = End
 
+-- the step in a text
 unfoldable pub stepAt : List ℕ → ℕ → Step
 stepAt us p = stepOf p (front (drop p us))
 
@@ -35,8 +39,9 @@ controlAt us p = stepAt us (p + run (drop p us))
 -- a sound text with its number of extended controls, else its first fault
 abbrev pub verdict : Option ℕ → ℕ → Judged
 verdict none n = judgement.Sound n
-verdict (some p) n = judgement.Broken (place p)
+verdict (some p) n = judgement.Broken (position p)
 
+-- the same of a text's units
 unfoldable pub judged : List ℕ → Judged
 judged us = verdict (textFault us) (extendedCount us)
 

@@ -1,5 +1,6 @@
 pub mod Units
+pub mod Asked
 pub mod Walk
 pub mod Answers
-pub mod Pairs
+pub mod Mirror
 pub mod Promise

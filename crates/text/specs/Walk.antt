@@ -1,48 +1,14 @@
--- The walk over a text's units (document 01, 'Text units').
+-- The walk over a text's units: what stands at each position, and the first unit that breaks what `Asked` asks (document 01, 'Text units').
 use Prim.Native.Nat.{ℕ, zero, suc, _+_, _-_, _≤_}
-use mathlib.Core.Path.{_≡_}
-use mathlib.Core.Bool.{Bool, true, false, cond, _&&_, _||_, not}
+use mathlib.Core.Bool.{true, false, cond, _&&_, not}
 use mathlib.Core.Option.{Option, none, some}
-use mathlib.Core.List.{List, [], _∷_, _++_}
-use lib.Dec.{ltb, leb, eqb}
+use mathlib.Core.List.{List, [], _∷_}
+use lib.Dec.{ltb, eqb}
 use lib.ListN.{length, getD, drop}
-use Rattle.text.specs.declared.Class.{Class}
+use Rattle.text.specs.Asked.{what, width}
 use Rattle.text.specs.declared.Class.the-variants.{Character, Inline, Extended}
-use Rattle.text.specs.declared.Control as declared
 use Rattle.text.specs.declared.Standing.{Standing}
 use Rattle.text.specs.declared.Standing.the-variants.{Ordinary, Control}
-
--- ---- table 6
-
--- whether a code is in a list of codes
-unfoldable pub among : ℕ → List ℕ → Bool
-among u [] = false
-among u (c ∷ cs) = eqb u c || among u cs
-
--- the class of a unit below 32: extended, inline, or one position
-unfoldable pub classOf : ℕ → Class
-classOf u =
-    cond (among u (1 ∷ 2 ∷ 3 ∷ 11 ∷ 12 ∷ 14 ∷ 15 ∷ 16 ∷ 17 ∷ 18 ∷ 21 ∷ 22 ∷ 23 ∷ [])) Extended
-    (cond (among u (4 ∷ 5 ∷ 6 ∷ 7 ∷ 8 ∷ 9 ∷ 19 ∷ 20 ∷ [])) Inline Character)
-
--- the control that a unit below 32 begins, with its class and code
-abbrev pub control : ℕ → declared.Control
-control u = record { class = classOf u; code = u }
-
--- what a unit begins: units from 32 up are ordinary
-unfoldable pub what : ℕ → Standing
-what u = cond (ltb u 32) (Control (control u)) (Ordinary u)
-
--- an inline or an extended control takes eight positions
-abbrev pub classWidth : Class → ℕ
-classWidth Character = 1
-classWidth Inline = 8
-classWidth Extended = 8
-
--- how many positions it takes
-abbrev pub width : Standing → ℕ
-width (Ordinary u) = 1
-width (Control c) = classWidth (c .class)
 
 -- ---- what stands at the front of the units that are left
 
@@ -52,25 +18,43 @@ pub data Front : Type 0 where
   broken : ℕ → Front
   over : Front
 
--- a unit u that takes n positions, with `left` units from it on, the nth of which is `last`: unit 0 is refused, a control is whole
--- and ends with its own code, and 13 stands at the end and only there
-unfoldable pub frontOf : ℕ → ℕ → ℕ → ℕ → Front
-frontOf u n left last =
-    cond (eqb u 0) (broken 0)
-    (cond (ltb left n) (broken 0)
-    (cond (not (eqb last u)) (broken (n - 1))
-    (cond (eqb left n)
-    (cond (eqb u 13) (stands (what u)) (broken n))
-    (cond (eqb u 13) (broken 0) (stands (what u))))))
+-- what a step has before it: a unit, how many units are left from it on, and the last of those that it takes
+pub record Sight : Type 0 where
+  pub unit : ℕ
+  pub left : ℕ
+  pub last : ℕ
 
--- the same, read off the units
+-- how many positions the unit takes
+abbrev pub takes : Sight → ℕ
+takes s = width (what (s .unit))
+
+-- the rules of `SoundText`, the first that is broken deciding; what breaks it is named by its distance from the unit
+unfoldable pub frontOf : Sight → Front
+frontOf s =
+    -- 'Unit 0 is refused'
+    cond (eqb (s .unit) 0) (broken 0)
+    -- 'a control takes eight positions': they are there
+    (cond (ltb (s .left) (takes s)) (broken 0)
+    -- 'An eight-unit control ends with its own code'
+    (cond (not (eqb (s .last) (s .unit))) (broken (takes s - 1))
+    -- 'Unit 13 as a control stands at the end': where something else stands last, it is lacking behind that
+    (cond (eqb (s .left) (takes s) && not (eqb (s .unit) 13)) (broken (takes s))
+    -- 'and only there'
+    (cond (eqb (s .unit) 13 && not (eqb (s .left) (takes s))) (broken 0)
+    (stands (what (s .unit)))))))
+
+-- the same of a unit u and the units behind it
+abbrev pub sight : ℕ → List ℕ → Sight
+sight u us = record { unit = u; left = length (u ∷ us); last = getD (u ∷ us) (width (what u) - 1) 0 }
+
+-- what stands at the front of units
 unfoldable pub front : List ℕ → Front
 front [] = over
-front (u ∷ us) = frontOf u (width (what u)) (suc (length us)) (getD (u ∷ us) (width (what u) - 1) 0)
+front (u ∷ us) = frontOf (sight u us)
 
--- ---- the whole text
+-- ---- the tokens
 
--- where a step stood, and what stands there ('each step reports')
+-- 'Each step reports where it stood and what stands there'
 pub record Token : Type 0 where
   pub at : ℕ
   pub what : Standing
@@ -89,22 +73,6 @@ tokens us = walk 0 0 us
 abbrev pub tokensAt : List ℕ → ℕ → List Token
 tokensAt us p = walk p 0 (drop p us)
 
--- units from 32 up, as a value holds them
-abbrev pub AllOrdinary : List ℕ → Type 0
-AllOrdinary [] = Unit {0}
-AllOrdinary (u ∷ us) = (32 ≤ u) × AllOrdinary us
-
--- how many ordinary units stand before the first unit below 32; all of them where there is none
-unfoldable pub run : List ℕ → ℕ
-run [] = 0
-run (u ∷ us) = elim (ltb u 32) [ true ↦ 0 | false ↦ suc (run us) ]
-
--- the four units from position p on are there and ordinary
-unfoldable pub fourOrdinary : List ℕ → ℕ → Bool
-fourOrdinary us p =
-    leb (p + 4) (length us)
-    && (leb 32 (getD us p 0) && (leb 32 (getD us (p + 1) 0) && (leb 32 (getD us (p + 2) 0) && leb 32 (getD us (p + 3) 0))))
-
 -- 1 of an extended control, else 0
 abbrev pub isExtended : Standing → ℕ
 isExtended (Ordinary u) = 0
@@ -118,6 +86,8 @@ extendedIn (t ∷ ts) = isExtended (t .what) + extendedIn ts
 -- how many a text has; each owns a control header
 unfoldable pub extendedCount : List ℕ → ℕ
 extendedCount us = extendedIn (tokens us)
+
+-- ---- the first fault
 
 -- the fault at position p, else that of what follows
 abbrev pub faultOr : ℕ → Front → Option ℕ → Option ℕ
@@ -140,10 +110,14 @@ unfoldable pub textFault : List ℕ → Option ℕ
 textFault [] = some 0
 textFault (u ∷ us) = fault 0 0 (u ∷ us)
 
--- ---- what acceptance means, with no order of tests: ordinary units and controls, then a 13
+-- ---- ordinary units
 
--- the six units between a control's two codes may hold anything
-pub data Sound : List ℕ → Type 0 where
-  ending : Sound (13 ∷ [])
-  single : {u : ℕ} {us : List ℕ} → width (what u) ≡ 1 → (u ≡ 0 → ⊥) → (u ≡ 13 → ⊥) → Sound us → Sound (u ∷ us)
-  eight : {u : ℕ} {us : List ℕ} (six : List ℕ) → width (what u) ≡ 8 → length six ≡ 6 → Sound us → Sound (u ∷ (six ++ (u ∷ us)))
+-- units from 32 up, as a value holds them
+abbrev pub AllOrdinary : List ℕ → Type 0
+AllOrdinary [] = Unit {0}
+AllOrdinary (u ∷ us) = (32 ≤ u) × AllOrdinary us
+
+-- how many stand before 'the next unit below 32' (document 01, 'Filling a field'); all of them where there is none
+unfoldable pub run : List ℕ → ℕ
+run [] = 0
+run (u ∷ us) = elim (ltb u 32) [ true ↦ 0 | false ↦ suc (run us) ]

@@ -4,7 +4,9 @@ ghost use mathlib.Core.Path.{_≡_};
 ghost use Prim.Native.Nat.{_+_, _-_, _/_, _≤_, _<_};
 ghost use lib.ListN.{length, getD, drop};
 ghost use Rattle.text.specs.Units.{units};
-ghost use Rattle.text.specs.Walk.{classOf, what as begins, width, frontOf, run, fourOrdinary};
+ghost use Rattle.text.specs.Asked.{classOf, what as begins, width};
+ghost use Rattle.text.specs.Walk.{frontOf, run};
+ghost use Rattle.text.specs.Mirror.{fourOrdinary};
 ghost use Rattle.text.specs.Answers.{stepOf, stepAt, cursor};
 
 // A position of the text, in units; it is never added to a byte offset.
@@ -151,7 +153,7 @@ fn closing(text: &[u8], at: Position, u: u32, n: usize) -> u32
 // document 01, 'Text units'.
 fn settle(at: Position, u: u32, what: Standing, left: usize, last: u32) -> Step
     requires { ⌜ (what ≡ begins u) × (at .0 + left < 18446744073709551616) ⌝ }
-    ensures { λ r. ⌜ r ≡ stepOf (at .0) (frontOf u (width what) left last) ⌝ }
+    ensures { λ r. ⌜ r ≡ stepOf (at .0) (frontOf (record { unit = u; left = left; last = last })) ⌝ }
 {
     let n = positions(what);
     if u == 0 {

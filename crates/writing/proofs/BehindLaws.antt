@@ -128,4 +128,4 @@ module _ {out₀ value s out : List ℕ} {at₀ n from place p nth : ℕ} {f : F
           }
 
 pub part-narrow : (s : List ℕ) (r : Record) {body : List ℕ} → body ≡ bodyOf s r → Narrow s → Narrow body
-part-narrow s r e h = omega (arith, ap length e, length-take (r .length) (drop (r .body .0) s), length-drop (r .body .0) s)
+part-narrow s r e h = omega (arith, ap length e, length-take (r .len) (drop (r .body .0) s), length-drop (r .body .0) s)

@@ -16,7 +16,7 @@ use Rattle.paragraph.specs.Stream.{recordsIn}
 use Rattle.filling.specs.Filling.{fits, sheet}
 use Rattle.filling.specs.Search.{Hit, hits}
 use Rattle.putting.specs.Putting.{largest, Puts}
-use Rattle.writing.specs.Sheet.{fieldOf, sheetOf}
+use Rattle.writing.specs.Sheet.{fieldOf, sheetWritten}
 use Rattle.writing.proofs.SheetLaws.{sheet-of}
 use Rattle.writing.proofs.WholeLaws.{sheet-is}
 
@@ -39,6 +39,6 @@ put-written {out} {after} {bs} k h = k .after-is ∙ laid-sets bs out h ∙ laid
 pub sheet-of-is : (s : List ℕ) → Bytes s → encode (recordsIn s) ≡ s → length s ≤ 4294967295 → (id : ℕ) (h : Hit) (hs : List Hit)
     → hits id 0 0 (recordsIn s) ≡ h ∷ hs → (value : List ℕ) → length value ≤ 4294967295
     → ((r : Rec) (rs : List Rec) → recordsIn (drop (h .header) s) ≡ r ∷ rs → 22 ≤ length (r .body))
-    → sheetOf (fieldOf (h .field .ordinal) (h .field .a) (h .field .b)) value s (h .header) ≡ sheet h value (recordsIn s)
+    → sheetWritten (fieldOf (h .field .ordinal) (h .field .a) (h .field .b)) value s (h .header) ≡ sheet h value (recordsIn s)
 sheet-of-is s bs w n id h hs q value m long =
     sym (sheet-of (fieldOf (h .field .ordinal) (h .field .a) (h .field .b)) value s (h .header) n m) ∙ sheet-is s bs w id h hs q value long

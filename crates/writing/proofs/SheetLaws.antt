@@ -24,7 +24,7 @@ use Rattle.filling.specs.Shapes.{packed, shapesIn, shapesAfter}
 use Rattle.filling.specs.Filling.{newHead, filling, shapesOf}
 use Rattle.putting.specs.Putting.{largest, Puts}
 use Rattle.changing.specs.Child.{recordWith}
-use Rattle.writing.specs.Sheet.{behindBytes, paragraphBytes, sheetBytes, sheetOf}
+use Rattle.writing.specs.Sheet.{behindBytes, paragraphBytes, sheetBytes, sheetWritten}
 use Rattle.putting.proofs.PuttingLaws.{puts-as, puts-then}
 use Rattle.changing.proofs.ChildLaws.{shapes-number}
 use Rattle.writing.proofs.BehindLaws.{rec-is}
@@ -88,7 +88,7 @@ module _ (f : Field) (value s : List ℕ) (header : ℕ) {out mid : List ℕ} {p
   sheet-none e u = puts-then t (puts-as (sym (paragraph-none f value s header (recordsIn (drop header s)) e)) u)
 
   module _ {r : Record} (d : Read s header r) where
-    pub sheet-short : {after : List ℕ} {q : ℕ} → r .length < 22 → Puts mid p (drop header s) q after → Puts out 0 (sheetBytes f value s header) q after
+    pub sheet-short : {after : List ℕ} {q : ℕ} → r .len < 22 → Puts mid p (drop header s) q after → Puts out 0 (sheetBytes f value s header) q after
     unfolding sheetBytes
     sheet-short l u =
         puts-then t
@@ -96,7 +96,7 @@ module _ (f : Field) (value s : List ℕ) (header : ℕ) {out mid : List ℕ} {p
         (sym (ap (paragraphBytes f value s header) (d .records) ∙ paragraph-short f value s header (d .rec) _ (rw (← d .length-is) l)))
         u)
 
-    pub sheet-long : {body mid2 after : List ℕ} {n shapes q z : ℕ} → 22 ≤ r .length → n ≡ r .level + 1 → body ≡ bodyOf s r
+    pub sheet-long : {body mid2 after : List ℕ} {n shapes q z : ℕ} → 22 ≤ r .len → n ≡ r .level + 1 → body ≡ bodyOf s r
         → Shapes f value s n (r .next .0) shapes
         → Puts mid p (encodeOne (recordWith r (newHead (f .a) (f .b) (length value / 2) shapes body))) q mid2
         → Puts mid2 q (behindBytes f value n 0 s (r .next .0) (recordsIn (drop (r .next .0) s))) z after
@@ -116,20 +116,20 @@ module _ (f : Field) (value s : List ℕ) (header : ℕ) {out mid : List ℕ} {p
 -- ---- the calls
 
 module _ (f : Field) (value s : List ℕ) (header : ℕ) where
-  pub over-stream : 4294967295 < length s → [] ≡ sheetOf f value s header
-  unfolding sheetOf
+  pub over-stream : 4294967295 < length s → [] ≡ sheetWritten f value s header
+  unfolding sheetWritten
   over-stream h = rw (lt-ltb 4294967295 (length s) h)
 
-  pub over-value : length s ≤ 4294967295 → 4294967295 < length value → [] ≡ sheetOf f value s header
-  unfolding sheetOf
+  pub over-value : length s ≤ 4294967295 → 4294967295 < length value → [] ≡ sheetWritten f value s header
+  unfolding sheetWritten
   over-value h k = rw (le-ltb 4294967295 (length s) h, lt-ltb 4294967295 (length value) k)
 
-  pub sheet-of : length s ≤ 4294967295 → length value ≤ 4294967295 → sheetBytes f value s header ≡ sheetOf f value s header
-  unfolding sheetOf
+  pub sheet-of : length s ≤ 4294967295 → length value ≤ 4294967295 → sheetBytes f value s header ≡ sheetWritten f value s header
+  unfolding sheetWritten
   sheet-of h k = rw (le-ltb 4294967295 (length s) h, le-ltb 4294967295 (length value) k)
 
 -- the body of a record that was read is as long as its header says
-pub body-long : {s : List ℕ} {header : ℕ} {r : Record} (d : Read s header r) {body : List ℕ} {m : ℕ} → body ≡ bodyOf s r → m ≤ r .length → m ≤ length body
+pub body-long : {s : List ℕ} {header : ℕ} {r : Record} (d : Read s header r) {body : List ℕ} {m : ℕ} → body ≡ bodyOf s r → m ≤ r .len → m ≤ length body
 body-long d e h = omega (arith, ap length (e ∙ d .body-is), d .length-is)
 
 pub measured : {out after bs : List ℕ} {r : ℕ} → Puts out 0 bs r after → r ≡ min largest (length bs)

@@ -18,7 +18,7 @@ use Rattle.paragraph.specs.Stream.{recordsIn}
 use Rattle.paragraph.specs.declared.view.Side.the-variants as S
 use Rattle.paragraph.proofs.StreamLaws.{stood-of}
 use Rattle.filling.specs.Fields.{Field, fields, withId}
-use Rattle.filling.specs.Editing.{Edit, withBody, put, countControl, editBehind, editHere, editAt}
+use Rattle.filling.specs.Editing.{Edit, withBody, put, countControl, editBehind, editHere, editAt, asChild}
 use Rattle.filling.specs.Filling.{newBody, filling, filled, sheet}
 use Rattle.filling.specs.Search.{Hit, hitOf, hits}
 use Rattle.filling.proofs.EditLaws.{which, is-beyond, is-owned, is-passed, behind-beyond, behind-owned, behind-passed, behind-nil, at-here, at-next, at-past}
@@ -63,9 +63,9 @@ module _ (f : Field) (value : List ℕ) (n : ℕ) (s : List ℕ) where
   unfolding behindBytes belowBytes controlsPassed
   passes j at r rs h e = rw (le-ltb (r .level) n h, e, belowBytes, controlsPassed)
 
-  put-bytes : (j : ℕ) (r : Rec) (rs : List Rec) → childBytes f value j r ++ encode rs ≡ encode (put (newBody f value j (r .tag) (r .body)) r rs)
+  put-bytes : (j : ℕ) (r : Rec) (rs : List Rec) → childBytes f value j r ++ encode rs ≡ encode (put (newBody f value (asChild j r)) r rs)
   unfolding childBytes
-  put-bytes j r rs = sym (encode-put (newBody f value j (r .tag) (r .body)) r rs)
+  put-bytes j r rs = sym (encode-put (newBody f value (asChild j r)) r rs)
 
   pub behind-whole : (j at : ℕ) (rs : List Rec) → encode rs ≡ drop at s → behindBytes f value n j s at rs ≡ encode (editBehind n j (newBody f value) rs)
   unfolding behindBytes

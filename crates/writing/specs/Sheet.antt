@@ -44,6 +44,6 @@ unfoldable pub sheetBytes : Field → List ℕ → List ℕ → ℕ → List ℕ
 sheetBytes f value s header = take header s ++ paragraphBytes f value s header (recordsIn (drop header s))
 
 -- the sheet of a stream and a value whose lengths have 32 bits; of longer ones there is none
-unfoldable pub sheetOf : Field → List ℕ → List ℕ → ℕ → List ℕ
-sheetOf f value s header =
+unfoldable pub sheetWritten : Field → List ℕ → List ℕ → ℕ → List ℕ
+sheetWritten f value s header =
     cond (ltb 4294967295 (length s)) [] (cond (ltb 4294967295 (length value)) [] (sheetBytes f value s header))

@@ -24,7 +24,7 @@ ghost use Rattle.filling.specs.Shapes.{shapesAfter};
 ghost use Rattle.filling.specs.Filling.{shapesOf};
 ghost use Rattle.putting.specs.Putting.{largest, Puts, Narrow};
 ghost use Rattle.changing.specs.Child.{fieldAt};
-ghost use Rattle.writing.specs.Sheet.{fieldOf, sheetBytes, sheetOf};
+ghost use Rattle.writing.specs.Sheet.{fieldOf, sheetBytes, sheetWritten};
 
 // How many shapes a paragraph has after a fill; the records behind its header begin at `behind`, its children are at level n.
 fn count_shapes(s: &[u8], behind: Offset, n: u32, change: Change) -> usize
@@ -43,7 +43,7 @@ fn put_sheet(out: &mut [u8], s: &[u8], header: Offset, spot: Spot, value: &[u8])
     let Ahead::Record(r) = record_at(s, header, 1023) else {
         return put_rest(out, p, s, header.0);
     };
-    if r.length < 22 {
+    if r.len < 22 {
         return put_rest(out, p, s, header.0);
     }
     let n = r.level + 1;
@@ -67,7 +67,7 @@ pub fn write(
     b: Position,
     value: &[u8],
 ) -> usize
-    ensures { λ r. ⌜ Puts (now (out .entry)) 0 (sheetOf (fieldOf ordinal (a .0) (b .0)) (now (value .entry)) (now (s .entry)) (header .0)) r (now (out .exit)) ⌝ }
+    ensures { λ r. ⌜ Puts (now (out .entry)) 0 (sheetWritten (fieldOf ordinal (a .0) (b .0)) (now (value .entry)) (now (s .entry)) (header .0)) r (now (out .exit)) ⌝ }
 {
     if 4294967295 < s.len() {
         return 0;
@@ -88,7 +88,7 @@ pub fn measure(
     b: Position,
     value: &[u8],
 ) -> usize
-    ensures { λ r. ⌜ r ≡ min largest (length (sheetOf (fieldOf ordinal (a .0) (b .0)) (now (value .entry)) (now (s .entry)) (header .0))) ⌝ }
+    ensures { λ r. ⌜ r ≡ min largest (length (sheetWritten (fieldOf ordinal (a .0) (b .0)) (now (value .entry)) (now (s .entry)) (header .0))) ⌝ }
 {
     let mut none = [0u8; 1];
     write(&mut none, s, header, ordinal, a, b, value)

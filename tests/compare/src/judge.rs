@@ -186,6 +186,26 @@ fn judge_question(
     }
 }
 
+/// What the subject says of a sheet that it made: check accepts it, and the field's text in it is the value.
+fn read_back(
+    sheet: &[u8],
+    filling: &Filling,
+    shift: usize,
+    subject: &dyn Subject,
+    differences: &mut Vec<String>,
+) {
+    let given = Lent::given(sheet, shift);
+    if number_of(subject.check(given.as_given())) != 0 {
+        differences.push("check refuses the sheet".to_string());
+    }
+    let told = subject.field_text(given.as_given(), filling.id);
+    let (place, length) = (place_of(told), (told >> 36) as usize);
+    let text = sheet.get(place..place + length);
+    if number_of(told) != 0 || text != Some(filling.value.as_slice()) {
+        differences.push("field text of the sheet is not the value".to_string());
+    }
+}
+
 /// One fill; beside the outcome the sheet, or the number of the subject's refusal.
 fn judge_fill(
     section: &[u8],
@@ -211,14 +231,17 @@ fn judge_fill(
     same("section bytes", &given, &untouched, &mut differences);
     let untouched = Lent::given(&filling.value, shift);
     same("value bytes", &value, &untouched, &mut differences);
+    let result = match number_of(found) {
+        0 => Ok(written.own()[..place_of(found).min(sheet)].to_vec()),
+        number => Err(number),
+    };
+    if let Ok(made) = &result {
+        read_back(made, filling, shift, subject, &mut differences);
+    }
     let outcome = Outcome {
         number: number_of(asked),
         tag: tag_at(section, asked),
         differences,
-    };
-    let result = match number_of(found) {
-        0 => Ok(written.own()[..place_of(found).min(sheet)].to_vec()),
-        number => Err(number),
     };
     (outcome, result)
 }

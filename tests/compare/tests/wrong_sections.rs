@@ -699,6 +699,18 @@ fn each_wrong_fill_is_caught() {
     }
 }
 
+/// A fill is read back by check and by field text, and either may be the wrong one.
+#[test]
+fn a_sheet_that_is_not_read_back_is_caught() {
+    let field_text: OnFieldText = |_, _, answer| match number_of(answer) {
+        0 => answer + 256,
+        _ => answer,
+    };
+    assert!(caught(Service::Fill, &Twisted { field_text, ..STRAIGHT }));
+    let read: OnRead = |_, _| answer(1, 0, 0);
+    assert!(caught(Service::Fill, &Twisted { read, ..STRAIGHT }));
+}
+
 #[test]
 fn each_wrong_lister_is_caught() {
     for (name, list) in LIST_TWISTS {

@@ -1,6 +1,6 @@
-use mathlib.Core.Path.{ap, _∙_}
-use Rattle.records.specs.Answers.{hostForm, number, place}
-use Rattle.records.specs.declared.fault.Answer.{Answer}
+-- Check in the host's form. Assumes nothing.
+use Rattle.numbers.proofs.LittleLaws.{slice-bytes}
+use Rattle.host.proofs.ToldLaws.{check-sum}
 use borrow.Author.Needs.{needs}
 use Rattle.host.proofs.hwp_check.Statement.{statement}
 use Rattle.host.proofs.hwp_check.Tie as tie
@@ -16,7 +16,8 @@ host-requires : tie.Need-host-requires
 host-requires c κs = search needs
 
 returns : tie.Need-returns
-returns c = c .host .ensures ∙ ap (λ (a : Answer). hostForm (number a) (place a) 0) (c .before .check .ensures)
+returns c =
+    check-sum (c .before .before .before .args .section .now) (slice-bytes (c .before .before .before .args .section .now) (c .before .before .shared-slice-known .given)) (c .host .ensures) (c .before .check .ensures)
 
 pub hwp-check-spec : {M : Type 1} → statement M
 hwp-check-spec = tie.close (tie.spec check-requires host-requires returns)

@@ -1,7 +1,6 @@
-use mathlib.Core.Path.{ap, _∙_}
-use Rattle.records.specs.Answers.{hostForm}
-use Rattle.filling.specs.Filling.{textNumber, textPlace, textLength}
-use Rattle.filling.specs.declared.TextAnswer.{TextAnswer}
+-- Field text in the host's form. Assumes nothing.
+use Rattle.numbers.proofs.LittleLaws.{slice-bytes}
+use Rattle.host.proofs.ToldLaws.{text-sum}
 use borrow.Author.Needs.{needs}
 use Rattle.host.proofs.hwp_field_text.Statement.{statement}
 use Rattle.host.proofs.hwp_field_text.Tie as tie
@@ -17,7 +16,9 @@ told-requires : tie.Need-told-requires
 told-requires c κs = search needs
 
 returns : tie.Need-returns
-returns c = c .told .ensures ∙ ap (λ (a : TextAnswer). hostForm (textNumber a) (textPlace a) (textLength a)) (c .before .field-text .ensures)
+returns c =
+    text-sum (c .before .before .before .args .section .now) (slice-bytes (c .before .before .before .args .section .now) (c .before .before .shared-slice-known .given)) _ (c .told .ensures)
+    (c .before .field-text .ensures)
 
 pub hwp-field-text-spec : {M : Type 1} → statement M
 hwp-field-text-spec = tie.close (tie.spec field-text-requires told-requires returns)

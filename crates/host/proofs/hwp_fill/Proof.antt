@@ -1,7 +1,6 @@
 -- Fill in the host's form. Assumes nothing.
-use mathlib.Core.Path.{ap, _∙_}
-use Rattle.records.specs.Answers.{hostForm, number, place}
-use Rattle.records.specs.declared.fault.Answer.{Answer}
+use Rattle.numbers.proofs.LittleLaws.{slice-bytes}
+use Rattle.host.proofs.ToldLaws.{fill-sum}
 use borrow.Author.Needs.{needs}
 use Rattle.host.proofs.hwp_fill.Statement.{statement}
 use Rattle.host.proofs.hwp_fill.Tie as tie
@@ -20,7 +19,9 @@ same-length : tie.Need-same-length
 same-length c = search needs
 
 returns : tie.Need-returns
-returns c = (c .host .ensures ∙ ap (λ (x : Answer). hostForm (number x) (place x) 0) (c .before .before .before .fill .ensures .0), c .before .before .before .fill .ensures .1)
+returns c =
+    fill-sum (c .before .before .before .before .before .before .before .before .args .section .now) (slice-bytes (c .before .before .before .before .before .before .before .before .args .section .now) (c .before .before .before .before .before .before .before .shared-slice-known .given)) (c .host .ensures)
+    (c .before .before .before .fill .ensures)
 
 pub hwp-fill-spec : {M : Type 1} → statement M
 hwp-fill-spec = tie.close (tie.spec fill-requires host-requires same-length returns)

@@ -5,7 +5,7 @@ use mathlib.Core.Path.{sym, ap, _∙_}
 use lib.ListN.{length}
 use borrow.Author.Needs.{needs}
 use Rattle.text.specs.Units.{units}
-use Rattle.text.specs.Answers.{place}
+use Rattle.text.specs.Answers.{position}
 use Rattle.text.specs.declared.Judged.the-variants as judgement
 use Rattle.text.proofs.UnitLaws.{length-units}
 use Rattle.text.proofs.WalkLaws.{past-ended}
@@ -53,13 +53,16 @@ extended-requires : tie.Need-extended-requires Inv-loop μ-loop
 extended-requires c κs = search needs
 
 add-count : tie.Need-add-count Inv-loop μ-loop
-add-count c = let d = c .before .before in omega (arith, walked-on (turn d .loop .inv) (reached d) .few, walked-on (turn d .loop .inv) (reached d) .within, c .extended .ensures, length-units (turn d .before .before .before .args .text .now))
+add-count c =
+    let d = c .before .before in
+    let w = walked-on (turn d .loop .inv) (reached d) (c .extended .ensures) in
+    omega (arith, w .few, w .within, length-units (turn d .before .before .before .args .text .now))
 
 loop-less : tie.Need-loop-less Inv-loop μ-loop
 loop-less c = let d = c .before .before .before in omega (arith, reached d .from, reached d .onward .rises, reached d .onward .fits)
 
 loop-again : tie.Need-loop-again Inv-loop μ-loop
-loop-again c = let d = c .before .before .before in rw (c .before .extended .ensures) (walked-on (turn d .loop .inv) (reached d))
+loop-again c = let d = c .before .before .before in walked-on (turn d .loop .inv) (reached d) (c .before .extended .ensures)
 
 enum-known-p : tie.Need-enum-known-p Inv-loop μ-loop
 enum-known-p c = search needs
@@ -72,7 +75,7 @@ enum-told c = search needs
 
 returns-3 : tie.Need-returns-3 Inv-loop μ-loop
 returns-3 c =
-    ap (λ n. judgement.Broken (place n)) (sym (length-units _))
+    ap (λ n. judgement.Broken (position n)) (sym (length-units _))
     ∙ walked-broken (c .before .before .before .before .before .loop .inv) (control-lacking _ _ (sym (c .before .before .next-control .ensures) ∙ c .enum-told .given .1) (rw length-units (c .before .before .before .if2 .taken)))
 
 returns-4 : tie.Need-returns-4 Inv-loop μ-loop

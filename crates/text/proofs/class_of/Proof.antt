@@ -1,4 +1,4 @@
-use Rattle.text.specs.Walk.{among, classOf}
+use Rattle.text.specs.Asked.{among, classOf}
 use Rattle.text.proofs.TableLaws.{made, letter, letters, letter-extended, letter-inline, letter-other}
 use borrow.Author.Needs.{needs}
 use Rattle.text.proofs.class_of.Statement.{statement}

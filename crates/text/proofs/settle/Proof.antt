@@ -1,8 +1,7 @@
-use Prim.Native.Nat.{_<_}
 use native.Mathlib.Omega.{arith}
-use mathlib.Core.Path.{_≡_}
-use mathlib.Core.Logic.{_⊎_, inl, inr}
-use Rattle.text.proofs.WalkLaws.{Stood}
+use mathlib.Core.Path.{_≡_, ap, _∙_}
+use mathlib.Core.Logic.{inl, inr}
+use Rattle.text.specs.Asked.{what, width}
 use Rattle.text.proofs.StepLaws.{at-zero, at-cut, at-unclosed, at-lacking, at-early, at-stood}
 use borrow.Author.Needs.{needs}
 use Rattle.text.proofs.settle.Statement.{statement}
@@ -11,24 +10,22 @@ use Rattle.text.proofs.settle.Reads as reads
 use Rattle.text.proofs.settle.Lts as lts
 use Rattle.text.proofs.positions.Reads as positions-reads
 
+-- how many positions the unit takes
+takes-is : (c : tie.After-positions) → c .positions .result ≡ width (what (c .before .args .u))
+takes-is c = c .positions .ensures .0 ∙ ap width (c .before .pre .0)
+
 -- the unit is closed by its own code
 abbrev looked : tie.Else3 → tie.After-positions
 looked c = c .before .before .before
-
-stood : (c : tie.Else3)
-    → ((looked c .before .args .u ≡ 13) × (looked c .before .args .left ≡ looked c .positions .result))
-    ⊎ ((looked c .before .args .u ≡ 13 → ⊥) × (looked c .positions .result < looked c .before .args .left))
-    → Stood (looked c .before .args .u) (looked c .positions .result) (looked c .before .args .left) (looked c .before .args .last)
-stood c ends = record { known = c .before .before .if1 .left; whole = c .before .if2 .left; closed = c .if3 .left; ends = ends }
 
 positions-requires : tie.Need-positions-requires
 positions-requires c κs = search needs
 
 returns : tie.Need-returns
-returns c = at-zero _ _ _ _ _ (c .if1 .taken)
+returns c = at-zero _ _ _ (takes-is (c .before)) (c .if1 .taken)
 
 returns-2 : tie.Need-returns-2
-returns-2 c = rw (← c .before .before .positions .ensures .0) (at-cut _ _ _ _ _ (c .before .if1 .left) (c .if2 .taken))
+returns-2 c = at-cut _ _ _ (takes-is (c .before .before)) (c .before .if1 .left) (c .if2 .taken)
 
 sub-closing : tie.Need-sub-closing
 sub-closing c = search needs
@@ -37,22 +34,22 @@ add-closing : tie.Need-add-closing
 add-closing c = search needs
 
 returns-3 : tie.Need-returns-3
-returns-3 c = rw (← c .before .before .before .positions .ensures .0) (at-unclosed _ _ _ _ _ (c .before .before .if1 .left) (c .before .if2 .left) (c .if3 .taken))
+returns-3 c = at-unclosed _ _ _ (takes-is (c .before .before .before)) (c .before .before .if1 .left) (c .before .if2 .left) (c .if3 .taken)
 
 add-behind : tie.Need-add-behind
 add-behind c = search needs
 
 returns-4 : tie.Need-returns-4
-returns-4 c = rw (← looked (c .before .before) .positions .ensures .0) (at-lacking _ _ _ _ _ (c .before .before .before .before .if1 .left) (c .before .before .before .if2 .left) (c .before .before .if3 .left) (c .before .if4 .taken) (c .if5 .taken))
+returns-4 c = at-lacking _ _ _ (takes-is (looked (c .before .before))) (c .before .before .before .before .if1 .left) (c .before .before .before .if2 .left) (c .before .before .if3 .left) (c .before .if4 .taken) (c .if5 .taken)
 
 returns-5 : tie.Need-returns-5
-returns-5 c = rw (← looked (c .before .before) .positions .ensures .0) (at-early _ _ _ _ _ (c .before .before .before .before .if1 .left) (c .before .before .before .if2 .left) (c .before .before .if3 .left) (c .before .if4 .left) (c .if6 .taken))
+returns-5 c = at-early _ _ _ (takes-is (looked (c .before .before))) (c .before .before .before .before .if1 .left) (c .before .before .before .if2 .left) (c .before .before .if3 .left) (c .before .if4 .left) (c .if6 .taken)
 
 returns-6 : tie.Need-returns-6
-returns-6 c = rw (← looked (c .before .before) .positions .ensures .0) (at-stood _ _ _ _ _ _ (looked (c .before .before) .before .pre .0) (looked (c .before .before) .positions .ensures .0) (stood (c .before .before) (inl (c .if5 .left, c .before .if4 .taken))))
+returns-6 c = at-stood _ _ _ (takes-is (looked (c .before .before))) (c .before .before .before .before .if1 .left) (c .before .before .before .if2 .left) (c .before .before .if3 .left) _ (looked (c .before .before) .before .pre .0) (inl (c .if5 .left, c .before .if4 .taken))
 
 returns-7 : tie.Need-returns-7
-returns-7 c = rw (← looked (c .before .before) .positions .ensures .0) (at-stood _ _ _ _ _ _ (looked (c .before .before) .before .pre .0) (looked (c .before .before) .positions .ensures .0) (stood (c .before .before) (inr (c .if6 .left, omega arith))))
+returns-7 c = at-stood _ _ _ (takes-is (looked (c .before .before))) (c .before .before .before .before .if1 .left) (c .before .before .before .if2 .left) (c .before .before .if3 .left) _ (looked (c .before .before) .before .pre .0) (inr (c .if6 .left, omega arith))
 
 pub settle-spec : {M : Type 1} → statement M
 settle-spec =

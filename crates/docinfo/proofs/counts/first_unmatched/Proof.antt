@@ -3,7 +3,7 @@ use borrow.Author.Needs.{needs}
 use native.Mathlib.Omega.{arith}
 use Prim.Native.Nat.{_-_}
 use mathlib.Core.Path.{refl}
-use Rattle.docinfo.specs.Children.{children}
+use Rattle.records.specs.Parents.{children}
 use Rattle.docinfo.proofs.WalkLaws.{rest}
 use Rattle.docinfo.proofs.CountLaws.{Matching, matching-end, matching-here, matching-next}
 use Rattle.docinfo.proofs.counts.first_unmatched.Statement.{statement}

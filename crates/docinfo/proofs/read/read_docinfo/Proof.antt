@@ -53,7 +53,7 @@ returns : tie.Need-returns
 returns c =
     let d = c .before .before .before .before .before .before .before .before .before .before .before .before .before .before .before in
     let read-so = c .before .before .before .before .before .before .before .before .read .ensures in
-    (read-so .0 ∙ answer-accepted _ _ _ (sym (checked d) ∙ c .before .before .before .before .before .before .before .before .before .before .before .before .before .enum-told .given .1), read-so .1)
+    record { answer = read-so .answer ∙ answer-accepted _ _ _ (sym (checked d) ∙ c .before .before .before .before .before .before .before .before .before .before .before .before .before .enum-told .given .1); table = read-so .table }
 
 same-length-5 : tie.Need-same-length-5
 same-length-5 c = search needs
@@ -68,7 +68,7 @@ same-length-8 : tie.Need-same-length-8
 same-length-8 c = search needs
 
 returns-2 : tie.Need-returns-2
-returns-2 c = (sym (c .before .r .given .1) ∙ checked (c .before .before .before), untouched _ _ _ _)
+returns-2 c = record { answer = sym (c .before .r .given .1) ∙ checked (c .before .before .before); table = untouched _ _ _ _ }
 
 pub read-docinfo-spec : {M : Type 1} → statement M
 read-docinfo-spec =

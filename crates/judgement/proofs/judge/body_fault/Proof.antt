@@ -2,7 +2,7 @@
 use mathlib.Core.Path.{_≡_, sym, ap₂, _∙_}
 use Rattle.paragraph.specs.Rules.{entryFault}
 use Rattle.paragraph.specs.Places.{bodyFound}
-use Rattle.judgement.proofs.JudgeLaws.{Sound, text-sound, text-broken, body-broken, body-entries, body-controls}
+use Rattle.judgement.proofs.JudgeLaws.{SoundBody, text-sound, text-broken, body-broken, body-entries, body-controls}
 use borrow.Author.Needs.{needs}
 use Rattle.judgement.proofs.judge.body_fault.Statement.{statement}
 use Rattle.judgement.proofs.judge.body_fault.Tie as tie
@@ -14,7 +14,7 @@ use Rattle.judgement.proofs.rules.entry_fault.Reads as entry-fault-read
 use Rattle.judgement.proofs.rules.of_child.Reads as of-child-reads
 
 -- where the text is sound
-sound : (c : tie.After-known-told) → Sound (bodyFound (c .before .before .before .before .before .before .args .s .now) (c .before .before .before .before .before .before .args .p .text)) (c .before .before .before .before .bytes .result .now) (c .before .extended .given .0 .0)
+sound : (c : tie.After-known-told) → SoundBody (bodyFound (c .before .before .before .before .before .before .args .s .now) (c .before .before .before .before .before .before .args .p .text)) (c .before .before .before .before .bytes .result .now) (c .before .extended .given .0 .0)
 sound c = text-sound (c .before .before .before .before .before .before .args .s .now) (c .before .before .before .before .before .before .args .p .text) _ _ (c .before .before .before .before .bytes .ensures) (c .before .before .before .judge-text .ensures) _ (c .before .extended .given .1)
 
 bytes-requires : tie.Need-bytes-requires

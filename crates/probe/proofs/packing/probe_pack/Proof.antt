@@ -18,7 +18,7 @@ same-length : tie.Need-same-length
 same-length c = search needs
 
 returns : tie.Need-returns
-returns c = tells-pack _ _ _ _ _ _ _ _ _ _ (c .before .before .before .pack .ensures) (c .host .ensures)
+returns c = tells-pack (c .before .before .before .pack .ensures) (c .host .ensures)
 
 pub probe-pack-spec : {M : Type 1} → statement M
 probe-pack-spec = tie.close (tie.spec pack-requires host-requires same-length returns)

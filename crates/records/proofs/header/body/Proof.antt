@@ -7,7 +7,7 @@ use Rattle.records.proofs.header.body.Reads as reads
 use Rattle.records.proofs.header.body.Lts as lts
 
 add-if1 : tie.Need-add-if1
-add-if1 c = omega (arith, lead-bounds (c .args .length))
+add-if1 c = omega (arith, lead-bounds (c .args .len))
 
 returns : tie.Need-returns
 returns c = body-past _ _ _ _ _ (c .if1 .taken)

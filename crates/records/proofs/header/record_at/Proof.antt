@@ -16,7 +16,7 @@ use Rattle.records.proofs.header.first.Reads as first-reads
 abbrev start : tie.After-h → tie.Start
 start c = c .before .before .before .before .before .before
 
-its : (c : tie.After-h) → Here (start c .args .s .now) (start c .args .at .0) (start c .args .cap) (record { at = start c .args .at; tag = c .h .given .0 .0 .tag; level = c .h .given .0 .0 .level; body = offset (start c .args .at .0 + c .h .given .0 .0 .lead); length = c .h .given .0 .0 .length; next = offset (start c .args .at .0 + c .h .given .0 .0 .lead + c .h .given .0 .0 .length) })
+its : (c : tie.After-h) → Here (start c .args .s .now) (start c .args .at .0) (start c .args .cap) (record { at = start c .args .at; tag = c .h .given .0 .0 .tag; level = c .h .given .0 .0 .level; body = offset (start c .args .at .0 + c .h .given .0 .0 .lead); len = c .h .given .0 .0 .len; next = offset (start c .args .at .0 + c .h .given .0 .0 .lead + c .h .given .0 .0 .len) })
 its c =
     here _ _ _ (slice-bytes (start c .args .s .now) (c .before .before .before .before .before .shared-slice-known .given)) _
     (sym (ahead-record _ _ _ (c .before .before .before .before .if1 .left) _ (sym (c .before .before .first .ensures) ∙ c .h .given .1)))

@@ -49,7 +49,11 @@ same-length-4 : tie.Need-same-length-4
 same-length-4 c = search needs
 
 returns : tie.Need-returns
-returns c = (sym (c .before .before .before .before .before .before .before .before .before .before .before .before .before .before .n .given .1) ∙ scanned (c .before .before .before .before .before .before .before .before .before .before .before .before .before .before .before .before), c .before .before .before .before .before .before .before .before .enter .ensures)
+returns c =
+    record {
+      answer = sym (c .before .before .before .before .before .before .before .before .before .before .before .before .before .before .n .given .1) ∙ scanned (c .before .before .before .before .before .before .before .before .before .before .before .before .before .before .before .before);
+      table = c .before .before .before .before .before .before .before .before .enter .ensures;
+    }
 
 same-length-5 : tie.Need-same-length-5
 same-length-5 c = search needs
@@ -64,7 +68,7 @@ same-length-8 : tie.Need-same-length-8
 same-length-8 c = search needs
 
 returns-2 : tie.Need-returns-2
-returns-2 c = (sym (c .before .r .given .1) ∙ scanned (c .before .before .before), untouched _ _ _ _)
+returns-2 c = record { answer = sym (c .before .r .given .1) ∙ scanned (c .before .before .before); table = untouched _ _ _ _ }
 
 pub read-spec : {M : Type 1} → statement M
 read-spec =

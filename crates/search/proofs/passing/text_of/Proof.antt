@@ -1,6 +1,6 @@
 -- Where the text stands is what `spanOf` has. Assumes nothing.
 use mathlib.Core.Path.{sym, ap, _∙_}
-use Rattle.search.specs.Searching.{spanOf}
+use Rattle.search.specs.Steps.{spanOf}
 use borrow.Author.Needs.{needs}
 use Rattle.search.proofs.passing.text_of.Statement.{statement}
 use Rattle.search.proofs.passing.text_of.Tie as tie

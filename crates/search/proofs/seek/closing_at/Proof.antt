@@ -1,6 +1,6 @@
 -- What closes a field is what `closingBy` has. Assumes nothing.
 use mathlib.Core.Path.{sym, ap}
-use Rattle.search.specs.Searching.{closingBy}
+use Rattle.search.specs.Steps.{closingBy}
 use borrow.Author.Needs.{needs}
 use Rattle.search.proofs.seek.closing_at.Statement.{statement}
 use Rattle.search.proofs.seek.closing_at.Tie as tie

@@ -1,6 +1,6 @@
 -- A hit is what `hitFrom` has. Assumes nothing.
 use mathlib.Core.Path.{ap}
-use Rattle.search.specs.Searching.{hitFrom}
+use Rattle.search.specs.Steps.{hitFrom}
 use borrow.Author.Needs.{needs}
 use Rattle.search.proofs.seek.hit_at.Statement.{statement}
 use Rattle.search.proofs.seek.hit_at.Tie as tie

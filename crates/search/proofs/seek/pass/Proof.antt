@@ -1,6 +1,6 @@
 -- What a step means to the search is what `seenOf` has. Assumes nothing.
 use mathlib.Core.Path.{sym, ap, _∙_}
-use Rattle.search.specs.Searching.{seenOf}
+use Rattle.search.specs.Steps.{seenOf}
 use borrow.Author.Needs.{needs}
 use Rattle.search.proofs.seek.pass.Statement.{statement}
 use Rattle.search.proofs.seek.pass.Tie as tie

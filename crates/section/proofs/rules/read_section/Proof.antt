@@ -53,7 +53,7 @@ returns : tie.Need-returns
 returns c =
     let d = c .before .before .before .before .before .before .before .before .before .before .before .before .before .before .before in
     let read-so = c .before .before .before .before .before .before .before .before .read .ensures in
-    (section-read (start d .args .s .now) _ _ _ _ (judged d) (c .before .before .before .before .before .before .before .before .before .before .before .before .before .enum-told .given .1) (read-so .0), read-so .1)
+    record { answer = section-read (start d .args .s .now) _ _ _ _ (judged d) (c .before .before .before .before .before .before .before .before .before .before .before .before .before .enum-told .given .1) (read-so .answer); table = read-so .table }
 
 same-length-5 : tie.Need-same-length-5
 same-length-5 c = search needs
@@ -68,7 +68,7 @@ same-length-8 : tie.Need-same-length-8
 same-length-8 c = search needs
 
 returns-2 : tie.Need-returns-2
-returns-2 c = (sym (c .before .r .given .1) ∙ judged (c .before .before .before), untouched _ _ _ _)
+returns-2 c = record { answer = sym (c .before .r .given .1) ∙ judged (c .before .before .before); table = untouched _ _ _ _ }
 
 pub read-section-spec : {M : Type 1} → statement M
 read-section-spec =

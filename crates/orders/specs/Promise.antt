@@ -1,4 +1,4 @@
--- What field text and fill promise leaves no choice: two outcomes that it allows are equal. Assumes nothing.
+-- What field text and fill promise, and that it leaves no choice: two outcomes that it allows are equal. Assumes nothing.
 use Prim.Native.Nat.{ℕ}
 use mathlib.Core.Path.{_≡_, sym, _∙_}
 use mathlib.Core.List.{List}
@@ -6,10 +6,10 @@ use lib.ListN.{length}
 use Rattle.records.specs.Table.{written}
 use Rattle.records.specs.declared.fault.Answer.{Answer}
 use Rattle.filling.specs.declared.TextAnswer.{TextAnswer}
-use Rattle.orders.specs.Calls.{fillOf, sheetOf}
-use Rattle.fields.specs.Calls.{fieldTextAnswer}
+use Rattle.orders.specs.Calls.{fieldTextOf, fillOf, sheetOf}
 
-pub text-determined : (s : List ℕ) (id : ℕ) {r₁ r₂ : TextAnswer} → r₁ ≡ fieldTextAnswer s id → r₂ ≡ fieldTextAnswer s id → r₁ ≡ r₂
+-- the promise of field text is its answer
+pub text-determined : (s : List ℕ) (id : ℕ) {r₁ r₂ : TextAnswer} → r₁ ≡ fieldTextOf s id → r₂ ≡ fieldTextOf s id → r₁ ≡ r₂
 text-determined s id a b = a ∙ sym b
 
 module _ (s : List ℕ) (id : ℕ) (value out : List ℕ) where

@@ -4,13 +4,8 @@ use mathlib.Core.Path.{_≡_}
 use mathlib.Core.List.{List, [], _∷_, _++_}
 use lib.ListN.{length}
 use Rattle.records.specs.Records.{Rec}
-use Rattle.docinfo.specs.Children.{children, tally}
-use Rattle.docinfo.specs.Counts.{countAt}
-
--- no record has the tag
-abbrev pub Lacks : ℕ → List Rec → Type 0
-Lacks t [] = Unit {0}
-Lacks t (r ∷ rs) = (r .tag ≡ t → ⊥) × Lacks t rs
+use Rattle.records.specs.Parents.{Lacks, children}
+use Rattle.docinfo.specs.Counts.{countAt, tally}
 
 -- exactly one record has the tag, and it is at level 0
 pub record Single (t : ℕ) (rs : List Rec) : Type 0 where
@@ -33,9 +28,10 @@ pub record CountsHold (body : List ℕ) (kids : List Rec) : Type 0 where
   pub counts-8-to-14 : (k : ℕ) → k < 7 → countAt 2 body (8 + k) ≡ tally (20 + k) kids
   pub count-15 : countAt 2 body 15 ≡ tally 92 kids
 
-pub record Sound (rs : List Rec) : Type 0 where
+pub record SoundDocInfo (rs : List Rec) : Type 0 where
   pub properties : Single 16 rs
   pub mappings : Single 17 rs
   pub properties-long : 30 ≤ length (properties .it .body)
   pub mappings-long : length (mappings .it .body) ≡ 32
+  -- the children of 17, the records whose parent it is: `children-of-17` in proofs/Reader.antt
   pub counts : CountsHold (mappings .it .body) (children 1 (mappings .behind))
