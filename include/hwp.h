@@ -12,9 +12,10 @@
  *   null, not even where the length is 0. The sheet overlaps neither the section nor the value.
  * - The answer is one number of 64 bits:
  *       number  +  256 x place  +  2^36 x further number
- *   hwp_number, hwp_place and hwp_further below take it apart, hwp_words says it. Number 0 is 'accepted'; each other
- *   number is a refusal, its place is the byte place of a record header in the section (0 where there is none to
- *   name), and its further number is 0. A refusal changes no byte.
+ *   Each of the three stands in full, whatever the input (a theorem). hwp_number, hwp_place and hwp_further below take
+ *   it apart, hwp_words says it. Number 0 is 'accepted'; each other number is a refusal, its place is the byte place of
+ *   a record header in the section (0 where there is none to name), and its further number is 0. A refusal changes no
+ *   byte.
  * - The same input has the same answer, and where several rules are broken the order below says which one is named.
  */
 #ifndef HWP_H
@@ -94,10 +95,12 @@ uint64_t hwp_field_text(const uint8_t *section, size_t section_len, uint32_t id)
  *   - the line layout record is gone and the number of lines is 0, so that the word processor lays it out again;
  *   - bit 15 of the field's properties (contents altered) is set;
  *   - a record whose length passes 4,095 has the header that its new length asks for.
- * An accepted sheet is itself accepted by hwp_check, and hwp_field_text finds the value in it.
+ * An accepted sheet is itself accepted by hwp_check, and hwp_field_text with the same id is accepted and points to the
+ * value in it (sheet-accepted and sheet-text in crates/orders/proofs/Promises.antt). The sheet is the section itself only
+ * when the field's text was the value already, with its count, and bit 15 set (template-sheet).
  *
- * A sheet never has more than section_len + value_len + 4 bytes: with that room 26 is not given. Both are theorems
- * (accepted-length and enough-room in crates/orders/proofs/Room.antt).
+ * A sheet never has more than section_len + value_len + 4 bytes: with that room 26 is not given (accepted-length and
+ * enough-room in crates/orders/proofs/Room.antt). All these are theorems.
  *
  * Refusals, in this order: those of hwp_check; 20 (an odd number of bytes too), 21, 22, 23, 24, 25, 26.
  */

@@ -1,14 +1,14 @@
 -- A chain of rules finds nothing exactly when none of its tests holds. Assumes nothing.
-use Prim.Native.Nat.{ℕ, _+_, _*_, _/_, _≤_, _<_, max}
+use Prim.Native.Nat.{ℕ, _+_, _*_, _/_, _<_, max}
 use native.Mathlib.Omega.{arith}
 use mathlib.Core.Path.{_≡_, refl, sym, ap, _∙_}
-use mathlib.Core.Logic.{_⊎_, inl, inr, _↔_}
+use mathlib.Core.Logic.{inl, inr}
 use mathlib.Core.Bool.{Bool, true, false, cond, _&&_, _||_, not}
 use mathlib.Core.Option.{Option, none, some}
 use mathlib.Core.List.{List, [], _∷_, map}
 use lib.Dec.{ltb, leb, eqb}
 use lib.ListN.{length, drop}
-use borrow.Author.Tests.{ltb-true, ltb-false, leb-true, leb-false, eqb-true, eqb-false, lt-ltb, le-ltb, le-leb, lt-leb, eq-eqb, ne-eqb, not-true, not-false}
+use borrow.Author.Tests.{ltb-true, ltb-false, leb-true, leb-false, eqb-true, eqb-false, lt-ltb, le-ltb, le-leb, lt-leb, eq-eqb, ne-eqb, not-false}
 use Rattle.numbers.specs.Little.{little}
 use Rattle.records.specs.declared.fault.Fault.{Fault}
 use Rattle.text.proofs.Cases.{eq-or}
@@ -17,7 +17,7 @@ use Rattle.paragraph.specs.Rules.{guard, orElse, lengthOf, lacks, unwanted, mis
 use Rattle.paragraph.specs.declared.finding.Which.{Which}
 use Rattle.paragraph.specs.declared.finding.Finding.{Finding}
 use Rattle.paragraph.specs.declared.finding.Finding.the-variants as G
-use Rattle.acceptance.specs.Keeps.{startsOf, Mark, markOf, marksOf, First, Above, Rise, Below, MarksWithin, LongEnough, Fields, Sized}
+use Rattle.acceptance.specs.Keeps.{startsOf, markOf, marksOf, First, Above, Rise, Below, MarksWithin, LongEnough, Fields, Sized}
 
 -- ---- tests
 

@@ -1,31 +1,30 @@
 -- Check never gives 7 (document 01: 'the same numbers but 7'), nor a number above 15. Assumes nothing.
-use Prim.Native.Nat.{ℕ, zero, suc, _+_, _-_, _/_, _%_, _≤_, _<_}
+use Prim.Native.Nat.{ℕ, zero, suc, _+_, _-_, _/_, _%_, _≤_}
 use native.Mathlib.Omega.{arith}
-use mathlib.Core.Path.{_≡_, refl, sym, ap, _∙_, subst}
+use mathlib.Core.Path.{_≡_, refl, subst}
 use mathlib.Core.Bool.{Bool, true, false, cond, _&&_}
 use mathlib.Core.Option.{Option, none, some}
 use mathlib.Core.List.{List, [], _∷_}
 use lib.Dec.{ltb, leb, eqb}
-use lib.ListN.{length, take, drop}
+use lib.ListN.{length, drop}
 use borrow.Author.Tests.{le-leb, leb-true}
 use Rattle.numbers.specs.Little.{little}
 use Rattle.records.specs.Records.{Rec, limit, size, encode}
 use Rattle.records.specs.Answers.{numberOf, number, refusedAt}
 use Rattle.records.specs.Reading as reading
-use Rattle.records.specs.Reading.{Stands, whole, fault, bodyAt, longAt, wordAt, standsAt, Read, onto, readFrom, readAll}
-use Rattle.records.specs.Table.{roomFor, stopped, answerOf, readAnswer}
+use Rattle.records.specs.Reading.{Stands, whole, fault, bodyAt, longAt, wordAt, standsAt, onto, readFrom, readAll}
+use Rattle.records.specs.Table.{roomFor, stopped, answerOf, readAnswer, settled, afterRead}
 use Rattle.records.specs.declared.fault.Fault.{Fault}
 use Rattle.records.specs.declared.fault.Fault.the-variants as F
 use Rattle.records.specs.declared.fault.Refusal.{Refusal}
 use Rattle.records.specs.declared.fault.Answer.{Answer}
 use Rattle.records.specs.declared.fault.Answer.the-variants as A
-use Rattle.paragraph.specs.View.{View, view, child, controls}
+use Rattle.paragraph.specs.View.{View, view}
 use Rattle.paragraph.specs.Rules.{guard, orElse, lengthFault, entryFault, fieldFault, controlFault, bodyFault, partsFault, headFault, paragraphFault, firstFault}
-use Rattle.paragraph.specs.declared.finding.Which.{Which}
 use Rattle.paragraph.specs.declared.finding.Finding.{Finding}
 use Rattle.paragraph.specs.declared.finding.Finding.the-variants as G
 use Rattle.section.specs.Parents.{header, strayFrom}
-use Rattle.section.specs.Section.{refusalOr, findingOf, paragraphsFault, strayOr, sectionFault, settled, ruled, sectionAnswer, checkAnswer}
+use Rattle.section.specs.Section.{refusalOr, findingOf, paragraphsFault, strayOr, sectionFault, sectionAnswer, checkAnswer}
 use Rattle.acceptance.proofs.ChainLaws.{both-true}
 use Rattle.acceptance.proofs.SectionReader.{room-enough}
 
@@ -156,7 +155,7 @@ abbrev EarlyAnswer : Answer → Type 0
 EarlyAnswer (A.Accepted n) = Unit {0}
 EarlyAnswer (A.Refused r) = numberOf (r .fault) ≤ 6
 
-ruled-ours : (rs : List Rec) (a : Answer) → EarlyAnswer a → Ours (ruled rs a)
+ruled-ours : (rs : List Rec) (a : Answer) → EarlyAnswer a → Ours (afterRead a (sectionFault rs))
 ruled-ours rs (A.Accepted n) h = settled-ours n (sectionFault rs) (late-section rs)
 ruled-ours rs (A.Refused r) h = ((λ e. omega arith), omega (arith, h))
 

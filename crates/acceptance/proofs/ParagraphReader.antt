@@ -1,9 +1,9 @@
 -- The reader's statement for one paragraph: no rule is broken exactly when document 01's sentences hold. Assumes nothing.
-use Prim.Native.Nat.{ℕ, _+_, _*_, _≤_, _<_, max}
+use Prim.Native.Nat.{ℕ, _*_, _≤_, _<_}
 use native.Mathlib.Omega.{arith}
-use mathlib.Core.Path.{_≡_, refl, sym, ap, _∙_}
+use mathlib.Core.Path.{_≡_, refl, sym, ap}
 use mathlib.Core.Logic.{_↔_}
-use mathlib.Core.Bool.{Bool, true, false, _||_, not}
+use mathlib.Core.Bool.{false, not}
 use mathlib.Core.Option.{Option, none, some}
 use mathlib.Core.List.{List}
 use lib.Dec.{ltb, eqb}
@@ -18,10 +18,9 @@ use Rattle.paragraph.specs.View.{View, child, controls}
 use Rattle.entries.specs.Entries.{shapesFault, marksFault}
 use Rattle.paragraph.specs.Rules.{countsOf, lengthOf, lengthsOf, lacks, absent, unwanted, misfits, lengthFault, isSome, textBroken, bytesIn, entryFault, codesIn, fieldFault, controlFault, bodyFault, partsFault, headFault, paragraphFault}
 use Rattle.paragraph.specs.declared.finding.Counts.{Counts}
-use Rattle.paragraph.specs.declared.finding.Finding.{Finding}
 use Rattle.paragraph.specs.declared.finding.Finding.the-variants as G
-use Rattle.acceptance.specs.Keeps.{startsOf, marksOf, MarksWithin, Fields, Sized, Keeps}
-use Rattle.acceptance.proofs.ChainLaws.{both-false, neither, some-none, guard-says, guard-passes, else-says, else-passes, lacks-says, lacks-not, unwanted-says, unwanted-not, misfits-says, misfits-not, none-says, SoundStarts, shapes-say, shapes-not, marks-say, marks-not, fields-say, fields-not}
+use Rattle.acceptance.specs.Keeps.{Keeps}
+use Rattle.acceptance.proofs.ChainLaws.{both-false, neither, some-none, guard-says, guard-passes, else-says, else-passes, lacks-says, lacks-not, unwanted-says, unwanted-not, misfits-says, misfits-not, none-says, shapes-say, shapes-not, marks-say, marks-not, fields-say, fields-not}
 
 -- ---- the text
 

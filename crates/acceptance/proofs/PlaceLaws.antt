@@ -8,7 +8,7 @@ use mathlib.Core.List.{List, [], _∷_}
 use lib.Dec.{leb}
 use borrow.Author.Tests.{le-leb, eq-eqb, ne-eqb, eqb-true, leb-true}
 use Rattle.records.specs.Records.{Rec}
-use Rattle.records.specs.Parents.{Parent, parentOf}
+use Rattle.records.specs.Parents.{parentOf}
 use Rattle.records.proofs.ParentLaws.{parent-exactly}
 use Rattle.section.specs.Parents.{leaf, header, parentIs}
 use Rattle.acceptance.specs.Section.{IsLeaf, ChildOf, Twin, here, further, Placed, AllPlaced}

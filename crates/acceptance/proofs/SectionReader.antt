@@ -1,32 +1,31 @@
 -- The reader's statement for a section (demand 2): check accepts a stream exactly when it is the encoding of a list of records that
 -- obeys document 01. Assumes nothing.
-use Prim.Native.Nat.{ℕ, zero, suc, _+_, _-_, _≤_, _<_}
+use Prim.Native.Nat.{ℕ, zero, suc, _+_, _-_, _≤_}
 use native.Mathlib.Omega.{arith}
 use mathlib.Core.Path.{_≡_, refl, sym, ap, _∙_, subst}
-use mathlib.Core.Logic.{_⊎_, inl, inr, _↔_}
+use mathlib.Core.Logic.{inl, inr, _↔_}
 use mathlib.Core.Bool.{Bool, true, false, cond, _&&_, _||_, not}
 use mathlib.Core.Option.{Option, none, some}
 use mathlib.Core.List.{List, [], _∷_}
-use lib.Dec.{eqb}
 use lib.ListN.{length}
-use borrow.Author.Tests.{eqb-true, eq-eqb, ne-eqb, not-false}
+use borrow.Author.Tests.{eq-eqb, ne-eqb, not-false}
 use Rattle.numbers.specs.Little.{Bytes}
-use Rattle.records.specs.Records.{Rec, limit, size, Lawful, Encodes}
+use Rattle.records.specs.Records.{Rec, size, Lawful}
 use Rattle.records.specs.Parents.{parentOf}
 use Rattle.records.specs.Reading.{Read, Stands, whole, fault, standsAt, onto, readFrom, readAll}
-use Rattle.records.specs.Table.{readAnswer}
-use Rattle.records.specs.declared.fault.Fault.{Fault}
+use Rattle.records.specs.Table.{readAnswer, settled, afterRead}
 use Rattle.records.specs.declared.fault.Refusal.{Refusal}
 use Rattle.records.specs.declared.fault.Answer.{Answer}
 use Rattle.records.specs.declared.fault.Answer.the-variants as A
-use Rattle.records.proofs.Reader.{IsStream, accepted-stream, stream-records, stream-accepted}
+use Rattle.records.proofs.AnswerLaws.{judged-accepted}
+use Rattle.records.proofs.Reader.{accepted-stream, stream-records, stream-accepted}
 use Rattle.paragraph.specs.View.{view}
-use Rattle.paragraph.specs.Rules.{paragraphFault, firstFault}
+use Rattle.paragraph.specs.Rules.{firstFault}
 use Rattle.paragraph.specs.declared.finding.Finding.{Finding}
 use Rattle.paragraph.specs.declared.finding.Finding.the-variants as G
 use Rattle.text.proofs.Cases.{eq-or}
 use Rattle.section.specs.Parents.{doubled, leaf, header, parentIs, misplaced, strayFrom}
-use Rattle.section.specs.Section.{refusalOr, findingOf, paragraphsFault, strayOr, sectionFault, settled, ruled, sectionAnswer, checkAnswer}
+use Rattle.section.specs.Section.{refusalOr, findingOf, paragraphsFault, strayOr, sectionFault, sectionAnswer, checkAnswer}
 use Rattle.section.proofs.SectionLaws.{section-accepted}
 use Rattle.acceptance.specs.Keeps.{Keeps}
 use Rattle.acceptance.specs.Section.{Placed, AllPlaced, AllKeep, SectionObeys, IsSection}
@@ -174,12 +173,8 @@ accepted-section s n bs e =
       within = k .within;
       encodes = k .encodes;
       count = k .count;
-      obeys = section-says (readAll s .recs) (k .encodes .lawful) (none-of (sectionFault (readAll s .recs)) (sym (ap (ruled (readAll s .recs)) read) ∙ e));
+      obeys = section-says (readAll s .recs) (k .encodes .lawful) (judged-accepted (readAnswer s (length s)) (sectionFault (readAll s .recs)) n e .1);
     }
-  where
-    none-of : (o : Option Refusal) → settled n o ≡ A.Accepted n → o ≡ none
-    none-of none q = refl
-    none-of (some r) q = absurd (let z : _≡_ {A = ℕ} 0 1 = cc in omega arith)
 
 -- a section is accepted, with its number of records
 pub section-is-accepted : (s : List ℕ) (n : ℕ) (rs : List Rec) → IsSection s n rs → checkAnswer s ≡ A.Accepted n
@@ -188,4 +183,4 @@ section-is-accepted s n rs k =
     let same : readAll s .recs ≡ rs = ap (λ (x : Read). x .recs) (stream-records s rs (k .encodes)) in
     let few : length rs ≤ length s = subst (λ (l : List Rec). length l ≤ length s) same (room-enough s) in
     let read = stream-accepted s (length s) n rs (record { within = k .within; encodes = k .encodes; fits = few; count = k .count }) in
-    ap (ruled (readAll s .recs)) read ∙ ap (settled n) (ap sectionFault same ∙ section-not rs (k .encodes .lawful) (k .obeys))
+    ap (λ (a : Answer). afterRead a (sectionFault (readAll s .recs))) read ∙ ap (settled n) (ap sectionFault same ∙ section-not rs (k .encodes .lawful) (k .obeys))

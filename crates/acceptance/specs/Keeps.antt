@@ -1,7 +1,7 @@
 -- What document 01 asks of one paragraph, a line for each of its sentences ('Paragraphs'), by no order of refusals.
 use Prim.Native.Nat.{ℕ, _+_, _*_, _/_, _≤_, _<_, max}
 use mathlib.Core.Path.{_≡_}
-use mathlib.Core.Option.{Option, none, some}
+use mathlib.Core.Option.{none, some}
 use mathlib.Core.List.{List, [], _∷_, map}
 use lib.ListN.{length, drop}
 use Rattle.numbers.specs.Little.{little}
@@ -12,7 +12,6 @@ use Rattle.text.specs.Walk.{tokens, extendedCount}
 use Rattle.paragraph.specs.View.{View, child, controls}
 use Rattle.entries.specs.Entries.{entries}
 use Rattle.paragraph.specs.Rules.{countsOf, bytesIn, codesIn}
-use Rattle.paragraph.specs.declared.finding.Counts.{Counts}
 
 -- ---- the entries of a body
 

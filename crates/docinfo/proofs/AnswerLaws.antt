@@ -8,18 +8,18 @@ use lib.ListN.{length, take, drop}
 use borrow.Author.Tests.{lt-ltb, le-ltb, eq-eqb, ne-eqb}
 use Rattle.records.specs.Answers.{refusedAt}
 use Rattle.records.specs.Reading.{readAll}
-use Rattle.records.specs.Table.{readAnswer}
+use Rattle.records.specs.Table.{readAnswer, settled, afterRead}
 use Rattle.records.specs.declared.fault.Fault.the-variants as F
 use Rattle.records.specs.declared.fault.Offset.{Offset}
 use Rattle.records.specs.declared.header.Record.{Record}
-use Rattle.records.specs.declared.fault.Refusal.{Refusal}
 use Rattle.records.specs.declared.fault.Answer.{Answer}
 use Rattle.records.specs.declared.fault.Answer.the-variants as A
+use Rattle.records.proofs.AnswerLaws.{judged-accepted}
 use Rattle.records.proofs.HeaderLaws.{length-part}
 use Rattle.records.specs.Parents.{children}
 use Rattle.docinfo.specs.Only.{only, soleOf, locatedAt, InStream}
 use Rattle.docinfo.specs.Counts.{countFault, verdictOf}
-use Rattle.docinfo.specs.DocInfo.{kidsOf, countRefusal, bodiesFault, judged, docinfoFault, ruled, further, docinfoAnswer}
+use Rattle.docinfo.specs.DocInfo.{kidsOf, countRefusal, bodiesFault, judged, docinfoFault, docinfoAnswer}
 use Rattle.docinfo.specs.declared.seek.Sole.the-variants as O
 use Rattle.docinfo.specs.declared.counts.Verdict.{Verdict}
 use Rattle.docinfo.specs.declared.counts.Verdict.the-variants as W
@@ -33,7 +33,7 @@ module _ (s : List ℕ) (n : ℕ) (p m : Record) (pre : (InStream s p) × (InStr
   bodyOf x = take (x .len) (drop (x .body .0) s)
 
   abbrev answer : Answer
-  answer = ruled n (bodiesFault (locatedAt s p) (locatedAt s m))
+  answer = settled n (bodiesFault (locatedAt s p) (locatedAt s m))
 
   length-16 : length (bodyOf p) ≡ p .len
   length-16 = length-part s (p .body .0) (p .len) (pre .0)
@@ -54,7 +54,7 @@ module _ (s : List ℕ) (n : ℕ) (p m : Record) (pre : (InStream s p) × (InStr
       abbrev faultOf : List ℕ → Option ℕ
       faultOf body = countFault 2 body (children 1 (rest 1 s (m .next .0)))
 
-      counted : answer ≡ ruled n (countRefusal (m .at .0) (faultOf (bodyOf m)))
+      counted : answer ≡ settled n (countRefusal (m .at .0) (faultOf (bodyOf m)))
       unfolding bodiesFault kidsOf
       counted =
           let next : m .level + 1 ≡ 1 = omega (arith, pre .2) in
@@ -65,7 +65,7 @@ module _ (s : List ℕ) (n : ℕ) (p m : Record) (pre : (InStream s p) × (InStr
       told W.Sound = A.Accepted n
       told (W.Fault i) = refusedAt F.CountUnmatched (m .at .0)
 
-      told-is : (o : Option ℕ) → told (verdictOf o) ≡ ruled n (countRefusal (m .at .0) o)
+      told-is : (o : Option ℕ) → told (verdictOf o) ≡ settled n (countRefusal (m .at .0) o)
       told-is none = refl
       told-is (some i) = refl
 
@@ -77,36 +77,28 @@ module _ (s : List ℕ) (n : ℕ) (p m : Record) (pre : (InStream s p) × (InStr
 
 module _ (s : List ℕ) (n : ℕ) where
   pub judge-16 : (o : Offset) → soleOf (only 16 (readAll s .recs)) ≡ O.Wrong o
-      → refusedAt F.DocInfoRecord (o .0) ≡ ruled n (docinfoFault (readAll s .recs))
+      → refusedAt F.DocInfoRecord (o .0) ≡ settled n (docinfoFault (readAll s .recs))
   unfolding docinfoFault judged
   judge-16 o e = simp (sole-wrong (only 16 (readAll s .recs)) o e)
 
   module _ (p : Record) (a : Alone s 16 p) where
     pub judge-17 : (o : Offset) → soleOf (only 17 (readAll s .recs)) ≡ O.Wrong o
-        → refusedAt F.DocInfoRecord (o .0) ≡ ruled n (docinfoFault (readAll s .recs))
+        → refusedAt F.DocInfoRecord (o .0) ≡ settled n (docinfoFault (readAll s .recs))
     unfolding docinfoFault judged
     judge-17 o e = simp (a .is, sole-wrong (only 17 (readAll s .recs)) o e)
 
-    pub judge-both : (m : Record) → Alone s 17 m → ruled n (bodiesFault (locatedAt s p) (locatedAt s m)) ≡ ruled n (docinfoFault (readAll s .recs))
+    pub judge-both : (m : Record) → Alone s 17 m → settled n (bodiesFault (locatedAt s p) (locatedAt s m)) ≡ settled n (docinfoFault (readAll s .recs))
     unfolding docinfoFault judged
     judge-both m b = simp (a .is, b .is)
 
 -- ---- behind read's numbers
 
 module _ (s : List ℕ) (room : ℕ) where
-  pub answer-read : (a : Answer) → a ≡ readAnswer s room → further a (readAll s .recs) ≡ docinfoAnswer s room
+  pub answer-read : (a : Answer) → a ≡ readAnswer s room → afterRead a (docinfoFault (readAll s .recs)) ≡ docinfoAnswer s room
   unfolding docinfoAnswer
-  answer-read a e = ap (λ (x : Answer). further x (readAll s .recs)) e
-
-  accepted-by : (a : Answer) (n : ℕ) → further a (readAll s .recs) ≡ A.Accepted n → a ≡ further a (readAll s .recs)
-  accepted-by (A.Refused r) n e = refl
-  accepted-by (A.Accepted k) n e = by-fault (docinfoFault (readAll s .recs)) e
-    where
-      by-fault : (o : Option Refusal) → ruled k o ≡ A.Accepted n → A.Accepted k ≡ ruled k o
-      by-fault none q = refl
-      by-fault (some r) q = absurd (let z : _≡_ {A = ℕ} 0 1 = cc in omega arith)
+  answer-read a e = ap (λ (x : Answer). afterRead x (docinfoFault (readAll s .recs))) e
 
   -- what DocInfo's rules accept is answered as read answers
   pub answer-accepted : (n : ℕ) → docinfoAnswer s room ≡ A.Accepted n → readAnswer s room ≡ docinfoAnswer s room
   unfolding docinfoAnswer
-  answer-accepted n e = accepted-by (readAnswer s room) n e
+  answer-accepted n e = judged-accepted (readAnswer s room) (docinfoFault (readAll s .recs)) n e .0 ∙ sym e

@@ -1,5 +1,4 @@
 -- Every place that the DocInfo read answers is within the limit. Assumes nothing.
-use mathlib.Core.Path.{_≡_, refl, subst}
 use Prim.Native.Nat.{ℕ, _+_, _≤_}
 use native.Mathlib.Omega.{arith}
 use mathlib.Core.Bool.{Bool, true, false, cond}
@@ -11,16 +10,12 @@ use Rattle.numbers.specs.Little.{Bytes}
 use Rattle.records.specs.Records.{Rec, limit, encode, size}
 use Rattle.records.specs.Parents.{keepIf}
 use Rattle.records.specs.Reading.{readAll}
-use Rattle.records.specs.Table.{readAnswer}
 use Rattle.records.specs.Answers.{place}
-use Rattle.records.specs.declared.fault.Fault.the-variants as F
 use Rattle.records.specs.declared.fault.Refusal.{Refusal}
-use Rattle.records.specs.declared.fault.Answer.{Answer}
-use Rattle.records.specs.declared.fault.Answer.the-variants as A
-use Rattle.records.proofs.ScanLaws.{length-encode, answer-near, records-near}
+use Rattle.records.proofs.ScanLaws.{length-encode, Near, judged-near}
 use Rattle.docinfo.specs.Only.{Located, tagged, Only, one, wrong, onlyOf, only}
 use Rattle.docinfo.specs.Counts.{countFault}
-use Rattle.docinfo.specs.DocInfo.{faultAt, kidsOf, countRefusal, bodiesFault, judged, docinfoFault, ruled, further, docinfoAnswer}
+use Rattle.docinfo.specs.DocInfo.{kidsOf, countRefusal, bodiesFault, judged, docinfoFault, docinfoAnswer}
 
 -- each stands at `end` or before it
 abbrev AllNear : ℕ → List Located → Type 0
@@ -57,11 +52,6 @@ only-near end (p ∷ q ∷ qs) a = by (eqb (p .it .level) 0)
     by true = a .1 .0
     by false = a .0
 
--- a refusal, if there is one, at `end` or before it
-abbrev Near : ℕ → Option Refusal → Type 0
-Near end none = Unit {0}
-Near end (some r) = r .place .0 ≤ end
-
 near-cond : (end : ℕ) (b : Bool) (x y : Option Refusal) → Near end x → Near end y → Near end (cond b x y)
 near-cond end true x y h k = h
 near-cond end false x y h k = k
@@ -70,11 +60,11 @@ count-near : (end p : ℕ) (o : Option ℕ) → p ≤ end → Near end (countRef
 count-near end p none h = tt
 count-near end p (some i) h = h
 
-judged-near : (end : ℕ) (x y : Only) → OnlyNear end x → OnlyNear end y → Near end (judged x y)
+both-near : (end : ℕ) (x y : Only) → OnlyNear end x → OnlyNear end y → Near end (judged x y)
 unfolding judged bodiesFault
-judged-near end (wrong a) y h k = h
-judged-near end (one p) (wrong b) h k = k
-judged-near end (one p) (one m) h k =
+both-near end (wrong a) y h k = h
+both-near end (one p) (wrong b) h k = k
+both-near end (one p) (one m) h k =
     near-cond end (ltb (length (p .it .body)) 30) _ _ h
     (near-cond end (eqb (length (m .it .body)) 32) _ _ (count-near end (m .at) (countFault 2 (m .it .body) (kidsOf m)) k) k)
 
@@ -82,20 +72,9 @@ fault-near : (rs : List Rec) → Near (length (encode rs)) (docinfoFault rs)
 unfolding docinfoFault only
 fault-near rs =
     let e = length (encode rs) in
-    judged-near e (only 16 rs) (only 17 rs) (only-near e (tagged 16 0 rs) (tagged-near 16 0 e rs (omega arith)))
+    both-near e (only 16 rs) (only 17 rs) (only-near e (tagged 16 0 rs) (tagged-near 16 0 e rs (omega arith)))
     (only-near e (tagged 17 0 rs) (tagged-near 17 0 e rs (omega arith)))
 
 pub docinfo-near : (s : List ℕ) (room : ℕ) → Bytes s → place (docinfoAnswer s room) ≤ limit
 unfolding docinfoAnswer
-docinfo-near s room bs = by (readAnswer s room) refl
-  where
-    settle : (n : ℕ) (o : Option Refusal) → n ≤ limit → length (encode (readAll s .recs)) ≤ limit → Near (length (encode (readAll s .recs))) o
-        → place (ruled n o) ≤ limit
-    settle n none h k a = h
-    settle n (some r) h k a = omega (arith, k, a)
-
-    by : (a : Answer) → readAnswer s room ≡ a → place (further a (readAll s .recs)) ≤ limit
-    by (A.Accepted n) e =
-        settle n (docinfoFault (readAll s .recs)) (subst (λ (a : Answer). place a ≤ limit) e (answer-near s room bs)) (records-near s room bs n e)
-        (fault-near (readAll s .recs))
-    by (A.Refused r) e = subst (λ (a : Answer). place a ≤ limit) e (answer-near s room bs)
+docinfo-near s room bs = judged-near s room bs (docinfoFault (readAll s .recs)) (fault-near (readAll s .recs))

@@ -2,7 +2,7 @@
 -- and one 17, both at level 0 and long enough, and the counts of 17 are those of its children. Assumes nothing.
 use Prim.Native.Nat.{ℕ, _+_, _≤_}
 use native.Mathlib.Omega.{arith}
-use mathlib.Core.Path.{_≡_, refl, sym, ap, _∙_, subst}
+use mathlib.Core.Path.{_≡_, refl, ap, _∙_, subst}
 use mathlib.Core.Bool.{Bool, true, false, cond}
 use mathlib.Core.Option.{Option, none, some}
 use mathlib.Core.List.{List, _∷_}
@@ -15,15 +15,14 @@ use Rattle.records.specs.Parents.{WithParent, children}
 use Rattle.records.specs.Reading.{Read, readAll}
 use Rattle.records.specs.Table.{readAnswer}
 use Rattle.records.specs.declared.fault.Refusal.{Refusal}
-use Rattle.records.specs.declared.fault.Answer.{Answer}
 use Rattle.records.specs.declared.fault.Answer.the-variants as A
 use Rattle.records.proofs.ParentLaws.{children-exactly, lawful-behind}
+use Rattle.records.proofs.AnswerLaws.{judged-accepted}
 use Rattle.records.proofs.Reader.{IsStream, accepted-stream, stream-records, stream-accepted}
 use Rattle.docinfo.specs.Only.{Located, tagged, Only, one, wrong, onlyOf, only}
-use Rattle.docinfo.specs.DocInfo.{kidsOf, countRefusal, bodiesFault, judged, docinfoFault, ruled, further, docinfoAnswer}
+use Rattle.docinfo.specs.DocInfo.{kidsOf, countRefusal, bodiesFault, judged, docinfoFault, docinfoAnswer}
 use Rattle.docinfo.specs.SoundDocInfo.{Single, CountsHold, SoundDocInfo}
 use Rattle.docinfo.proofs.OnlyLaws.{onlyOf-is, onlyOf-one}
-use Rattle.docinfo.proofs.AnswerLaws.{answer-accepted}
 use Rattle.docinfo.proofs.SoundLaws.{Split, tagged-split, split-tagged, counts-hold, counts-fine}
 
 -- ---- the only record
@@ -143,17 +142,12 @@ pub record IsDocInfo (s : List ℕ) (room n : ℕ) (rs : List Rec) : Type 0 wher
   pub stream : IsStream s room n rs
   pub sound : SoundDocInfo rs
 
-ruled-none : (n : ℕ) (o : Option Refusal) → ruled n o ≡ A.Accepted n → o ≡ none
-ruled-none n none e = refl
-ruled-none n (some r) e = absurd (let z : _≡_ {A = ℕ} 0 1 = cc in omega arith)
-
 -- what is accepted is DocInfo, of the records that are entered
 pub accepted-docinfo : (s : List ℕ) (room n : ℕ) → Bytes s → docinfoAnswer s room ≡ A.Accepted n → IsDocInfo s room n (readAll s .recs)
 unfolding docinfoAnswer
 accepted-docinfo s room n bs e =
-    let read-so : readAnswer s room ≡ A.Accepted n = answer-accepted s room n e ∙ e in
-    let ruled-so : ruled n (docinfoFault (readAll s .recs)) ≡ A.Accepted n = sym (ap (λ (a : Answer). further a (readAll s .recs)) read-so) ∙ e in
-    record { stream = accepted-stream s room n bs read-so; sound = faultless-sound (readAll s .recs) (ruled-none n _ ruled-so) }
+    let k = judged-accepted (readAnswer s room) (docinfoFault (readAll s .recs)) n e in
+    record { stream = accepted-stream s room n bs (k .0); sound = faultless-sound (readAll s .recs) (k .1) }
 
 -- DocInfo is accepted
 pub docinfo-accepted : (s : List ℕ) (room n : ℕ) (rs : List Rec) → IsDocInfo s room n rs → docinfoAnswer s room ≡ A.Accepted n

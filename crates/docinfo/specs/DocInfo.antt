@@ -8,12 +8,11 @@ use lib.ListN.{length}
 use Rattle.records.specs.Records.{Rec}
 use Rattle.records.specs.Parents.{children}
 use Rattle.records.specs.Reading.{readAll}
-use Rattle.records.specs.Table.{readAnswer}
+use Rattle.records.specs.Table.{readAnswer, afterRead}
 use Rattle.records.specs.declared.fault.Fault.{Fault}
 use Rattle.records.specs.declared.fault.Fault.the-variants as F
 use Rattle.records.specs.declared.fault.Refusal.{Refusal}
 use Rattle.records.specs.declared.fault.Answer.{Answer}
-use Rattle.records.specs.declared.fault.Answer.the-variants as A
 use Rattle.docinfo.specs.Only.{Located, Only, one, wrong, only}
 use Rattle.docinfo.specs.Counts.{countFault}
 
@@ -46,16 +45,6 @@ judged (one p) (one m) = bodiesFault p m
 unfoldable pub docinfoFault : List Rec → Option Refusal
 docinfoFault rs = judged (only 16 rs) (only 17 rs)
 
--- accepted with n records, or the refusal
-abbrev pub ruled : ℕ → Option Refusal → Answer
-ruled n none = A.Accepted n
-ruled n (some r) = A.Refused r
-
--- an acceptance by read is judged further
-abbrev pub further : Answer → List Rec → Answer
-further (A.Accepted n) rs = ruled n (docinfoFault rs)
-further (A.Refused r) rs = A.Refused r
-
 -- the answer where the shortest list has `room` entries: read's numbers, then 16 to 18
 unfoldable pub docinfoAnswer : List ℕ → ℕ → Answer
-docinfoAnswer s room = further (readAnswer s room) (readAll s .recs)
+docinfoAnswer s room = afterRead (readAnswer s room) (docinfoFault (readAll s .recs))

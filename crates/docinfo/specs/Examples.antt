@@ -8,9 +8,10 @@ use Rattle.numbers.specs.Little.{little, span, bytesOf}
 use Rattle.records.specs.Records.{Rec, leadOf, size}
 use Rattle.records.specs.Parents.{keepIf, children}
 use Rattle.records.specs.Answers.{number, place}
+use Rattle.records.specs.Table.{settled}
 use Rattle.docinfo.specs.Only.{tagged, onlyOf, only}
 use Rattle.docinfo.specs.Counts.{once, tally, countAt, negative, negativeFrom, sumFrom, groups, unmatched, orElse, countFault}
-use Rattle.docinfo.specs.DocInfo.{kidsOf, bodiesFault, judged, docinfoFault, ruled}
+use Rattle.docinfo.specs.DocInfo.{kidsOf, bodiesFault, judged, docinfoFault}
 
 pub record Example : Type 0 where
   pub recs : List Rec
@@ -18,7 +19,7 @@ pub record Example : Type 0 where
   pub at : ℕ
 
 unfoldable pub right : Example → Bool
-right k = eqb (number (ruled 0 (docinfoFault (k .recs)))) (k .gets) && eqb (place (ruled 0 (docinfoFault (k .recs)))) (k .at)
+right k = eqb (number (settled 0 (docinfoFault (k .recs)))) (k .gets) && eqb (place (settled 0 (docinfoFault (k .recs)))) (k .at)
 
 unfoldable pub allRight : List Example → Bool
 allRight [] = true

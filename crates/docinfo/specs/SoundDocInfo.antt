@@ -1,7 +1,7 @@
 -- What acceptance means, in document 01's own words and by no order of tests ('DocInfo').
 use Prim.Native.Nat.{ℕ, _+_, _≤_, _<_}
 use mathlib.Core.Path.{_≡_}
-use mathlib.Core.List.{List, [], _∷_, _++_}
+use mathlib.Core.List.{List, _∷_, _++_}
 use lib.ListN.{length}
 use Rattle.records.specs.Records.{Rec}
 use Rattle.records.specs.Parents.{Lacks, children}

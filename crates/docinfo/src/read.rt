@@ -10,14 +10,15 @@ use records::Record;
 use records::refused;
 ghost use mathlib.Core.Path.{_≡_};
 ghost use Rattle.records.specs.Reading.{readAll};
+ghost use Rattle.records.specs.Table.{settled};
 ghost use Rattle.records.specs.Promise.{Promised};
 ghost use Rattle.docinfo.specs.Only.{locatedAt, InStream};
-ghost use Rattle.docinfo.specs.DocInfo.{bodiesFault, docinfoFault, ruled, docinfoAnswer};
+ghost use Rattle.docinfo.specs.DocInfo.{bodiesFault, docinfoFault, docinfoAnswer};
 
 // 17 for record 16, 17 for record 17, 18; else n records are accepted.
 fn judge_bodies(s: &[u8], n: usize, properties: Record, mappings: Record) -> Answer
     requires { ⌜ (InStream (now s) properties) × (InStream (now s) mappings) × (mappings .level ≡ 0) ⌝ }
-    ensures { λ r. ⌜ r ≡ ruled n (bodiesFault (locatedAt (now (s .entry)) properties) (locatedAt (now (s .entry)) mappings)) ⌝ }
+    ensures { λ r. ⌜ r ≡ settled n (bodiesFault (locatedAt (now (s .entry)) properties) (locatedAt (now (s .entry)) mappings)) ⌝ }
 {
     if properties.len < 30 {
         return refused(Fault::DocInfoLength, properties.at);
@@ -34,7 +35,7 @@ fn judge_bodies(s: &[u8], n: usize, properties: Record, mappings: Record) -> Ans
 
 // 16 for record 16, 16 for record 17, and then their bodies; else n records are accepted.
 fn judge(s: &[u8], n: usize) -> Answer
-    ensures { λ r. ⌜ r ≡ ruled n (docinfoFault (readAll (now (s .entry)) .recs)) ⌝ }
+    ensures { λ r. ⌜ r ≡ settled n (docinfoFault (readAll (now (s .entry)) .recs)) ⌝ }
 {
     match only(s, 16) {
         Sole::Wrong(p) => refused(Fault::DocInfoRecord, p),

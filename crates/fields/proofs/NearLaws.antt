@@ -1,6 +1,6 @@
 -- Every place and length that field text and fill answer is within the limit. Assumes nothing.
 use mathlib.Core.Path.{_≡_, refl, sym, ap, _∙_, subst}
-use Prim.Native.Nat.{ℕ, _+_, _*_, _-_, _≤_}
+use Prim.Native.Nat.{ℕ, _-_, _≤_}
 use native.Mathlib.Omega.{arith}
 use mathlib.Core.List.{List}
 use lib.ListN.{length}
@@ -13,7 +13,7 @@ use Rattle.records.specs.declared.fault.Answer.the-variants as A
 use Rattle.paragraph.specs.Stream.{recordsIn}
 use Rattle.section.specs.Section.{checkAnswer}
 use Rattle.section.proofs.NearLaws.{check-near}
-use Rattle.filling.specs.Search.{Hit, Outcome, one, refused, search}
+use Rattle.filling.specs.Search.{Outcome, one, refused, search}
 use Rattle.filling.specs.Filling.{textAnswer, textPlace, textLength, fillAnswer}
 use Rattle.filling.specs.declared.TextAnswer.{TextAnswer}
 use Rattle.filling.proofs.NearLaws.{OutcomeNear, search-near, fill-near}

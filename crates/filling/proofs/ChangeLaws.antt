@@ -16,21 +16,17 @@ use Rattle.records.specs.Records.{Rec}
 use Rattle.text.specs.Units.{units}
 use Rattle.text.proofs.Cases.{eq-or}
 use Rattle.text.proofs.UnitLaws.{length-units}
-use Rattle.paragraph.specs.View.{side, View, view, views, child, controls}
+use Rattle.paragraph.specs.View.{side, View, view, child, controls}
 use Rattle.paragraph.specs.Rules.{bytesIn}
 use Rattle.paragraph.specs.declared.view.Side.the-variants as S
 use Rattle.filling.specs.Replacing.{replaced}
 use Rattle.filling.specs.Fields.{Field, fields}
 use Rattle.filling.specs.Editing.{Change, Edit, withBody, put, countControl, editView, editBehind, editHere, editAt, modified, asChild}
-use Rattle.filling.specs.Placing.{Leaves}
-use Rattle.filling.specs.Search.{Hit}
-use Rattle.filling.specs.Filling.{unitCount, withBit15, altered, filling, filled}
+use Rattle.filling.specs.Filling.{unitCount, withBit15, altered, filling}
 use Rattle.filling.proofs.AnswerLaws.{bit-set, bit-clear}
 use Rattle.filling.proofs.PackingLaws.{over-here}
-use Rattle.filling.proofs.EditLaws.{is-beyond, is-owned, is-passed, which, behind-beyond, behind-owned, behind-passed, behind-nil, at-here, at-next, at-past, at-nil, views-editAt}
+use Rattle.filling.proofs.EditLaws.{is-beyond, is-owned, is-passed, which, behind-beyond, behind-owned, behind-passed, behind-nil, at-here, at-next, at-past, at-nil}
 use Rattle.filling.proofs.FieldLaws.{Among, a-to-b}
-use Rattle.filling.proofs.FillLaws.{takes-filling, layout-filled}
-use Rattle.filling.proofs.OrderLaws.{Done, done-met}
 use Rattle.filling.proofs.SearchLaws.{alteredAt, controls-filled, units-filled}
 
 -- ---- the text of the filled field

@@ -1,11 +1,11 @@
 -- A section is its own sheet only when it was filled so already: the field's text is the value, the count is the same, and bit 15 is set
 -- (document 01, 'What acceptance of a promise means'). Assumes nothing.
-use mathlib.Core.Path.{_≡_, refl, sym, ap, _∙_, subst}
+use mathlib.Core.Path.{_≡_, refl, sym, ap, _∙_}
 use mathlib.Core.Logic.{inl, inr}
-use Prim.Native.Nat.{ℕ, zero, suc, _+_, _-_, _/_, _%_, _≤_, _<_}
+use Prim.Native.Nat.{ℕ, zero, suc, _+_, _-_, _/_, _%_, _<_}
 use native.Mathlib.Omega.{arith}
 use mathlib.Core.Bool.{true}
-use mathlib.Core.Option.{Option, none, some}
+use mathlib.Core.Option.{some}
 use mathlib.Core.List.{List, [], _∷_}
 use lib.ListN.{length, getD, take, drop, getElem?}
 use Rattle.numbers.specs.Little.{little, Bytes}
@@ -24,7 +24,7 @@ use Rattle.filling.specs.Replacing.{replaced}
 use Rattle.filling.specs.Fields.{Field, fields}
 use Rattle.filling.specs.Editing.{editView}
 use Rattle.filling.specs.Search.{Hit}
-use Rattle.filling.specs.Filling.{unitCount, altered, filling, filled}
+use Rattle.filling.specs.Filling.{unitCount, filling, filled}
 use Rattle.filling.specs.Accepted.{AllBodies, Accepted}
 use Rattle.filling.proofs.ReplacingLaws.{length-replaced}
 use Rattle.filling.proofs.EditLaws.{views-editAt}

@@ -1,18 +1,14 @@
 -- A paragraph judged from the stream is judged by its view. Assumes nothing.
-use Prim.Native.Nat.{ℕ, zero, suc, _+_, _-_, _≤_, _<_}
+use Prim.Native.Nat.{ℕ, suc, _+_, _-_, _≤_, _<_}
 use native.Mathlib.Omega.{arith}
-use native.Mathlib.Decide.{decLe}
-use native.Mathlib.Nat.{lt-of-not-le}
 use native.Mathlib.Numerals.{add-one}
-use mathlib.Core.Path.{_≡_, refl, sym, ap, ap₂, _∙_, subst}
-use mathlib.Core.Bool.{Bool, true, false, cond, not}
+use mathlib.Core.Path.{_≡_, refl, sym, ap, ap₂, _∙_}
+use mathlib.Core.Bool.{Bool, true, false, not}
 use mathlib.Core.Option.{Option, none, some}
 use mathlib.Core.List.{List, [], _∷_}
-use lib.Dec.{ltb, eqb}
-use lib.ListN.{length, take, drop}
+use lib.ListN.{length, drop}
 use borrow.Author.Tests.{lt-ltb, le-ltb, eq-eqb, ne-eqb}
 use Rattle.numbers.specs.Little.{Bytes}
-use Rattle.numbers.proofs.LittleLaws.{part-rest}
 use Rattle.records.specs.Records.{Rec}
 use Rattle.records.specs.Reading.{offset}
 use Rattle.records.specs.declared.fault.Offset.{Offset}
@@ -31,12 +27,11 @@ use Rattle.text.specs.declared.Judged.{Judged}
 use Rattle.text.specs.declared.Judged.the-variants as judgement
 use Rattle.paragraph.specs.View.{kids, view, child, controls}
 use Rattle.paragraph.specs.Stream.{recordsIn}
-use Rattle.paragraph.specs.Rules.{guard, orElse, ofHeader, ofChild, Lengths, lengthOf, lengthsOf, absent, lengthFault, isSome, textBroken, bytesIn, entryFault, ownerOf, codeBefore, codesIn, fieldFault, controlFault, bodyFault, countsOf, partsFault, headFault, paragraphFault, firstFault}
-use Rattle.paragraph.specs.Places.{foundIn, lengthFound, bodyOf, bodyFound, partsIn, lengthsFound, textJudged, placeFound, childPlace}
+use Rattle.paragraph.specs.Rules.{orElse, ofHeader, ofChild, lengthsOf, absent, lengthFault, isSome, textBroken, bytesIn, entryFault, ownerOf, codeBefore, codesIn, fieldFault, controlFault, bodyFault, countsOf, partsFault, headFault, paragraphFault, firstFault}
+use Rattle.paragraph.specs.Places.{foundIn, bodyOf, bodyFound, partsIn, lengthsFound, textJudged, placeFound, childPlace}
 use Rattle.paragraph.specs.declared.children.Parts.{Parts}
 use Rattle.paragraph.specs.declared.children.Found.{Found}
 use Rattle.paragraph.specs.declared.children.Found.the-variants as P
-use Rattle.paragraph.specs.declared.fields.Owner.{Owner}
 use Rattle.paragraph.specs.declared.finding.Counts.{Counts}
 use Rattle.paragraph.specs.declared.finding.Which.{Which}
 use Rattle.paragraph.specs.declared.finding.Finding.{Finding}

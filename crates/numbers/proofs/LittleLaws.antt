@@ -7,7 +7,6 @@ use mir.Val.{Fits}
 use mir.Syntax.{w8}
 use mathlib.Core.Path.{_≡_, refl, sym, ap, ap₂, _∙_}
 use mathlib.Core.List.{List, [], _∷_, _++_}
-use mathlib.Core.Bool.{true, false, cond}
 use lib.Arith.{digits-mod, digits-div}
 use lib.ListN.{length, getD, take, drop, set, length-drop, drop-of-length-le, List·getD-eq-default}
 use lib.Seq.{sets, sets-eq, getD-drop, drop-drop, take-all, take-nil, take-length}

@@ -1,23 +1,22 @@
 -- What the promises of field text and fill come to, over the promises themselves (demands 2 and 3): a sheet is the first bytes of the buffer
 -- that a fill left. Assumes nothing.
-use mathlib.Core.Path.{_≡_, refl, sym, ap, _∙_}
+use mathlib.Core.Path.{_≡_, sym, ap, _∙_}
 use Prim.Native.Nat.{ℕ}
 use native.Mathlib.Omega.{arith}
-use mathlib.Core.Bool.{Bool, true, false, cond}
+use mathlib.Core.Bool.{Bool, true, cond}
 use mathlib.Core.Option.{some}
-use mathlib.Core.List.{List, [], _∷_}
+use mathlib.Core.List.{List}
 use lib.ListN.{length, take, drop, getElem?}
 use lib.Seq.{take-at}
 use Rattle.numbers.specs.Little.{Bytes}
 use Rattle.records.specs.Records.{Rec, encode}
 use Rattle.records.specs.Reading.{Read, readAll}
-use Rattle.records.specs.Table.{written}
 use Rattle.records.specs.declared.fault.Fault.the-variants as F
 use Rattle.records.specs.declared.fault.Answer.{Answer}
 use Rattle.records.specs.declared.fault.Answer.the-variants as A
 use Rattle.paragraph.specs.View.{View, views}
 use Rattle.section.specs.Section.{checkAnswer}
-use Rattle.filling.specs.Search.{Hit, Outcome, one, refused, outcome, search}
+use Rattle.filling.specs.Search.{Hit, one, refused, outcome, search}
 use Rattle.filling.specs.Filling.{filled, textAnswer}
 use Rattle.filling.specs.Accepted.{Accepted}
 use Rattle.filling.specs.declared.TextAnswer.{TextAnswer}
@@ -26,7 +25,7 @@ use Rattle.filling.proofs.OrderLaws.{Done, done}
 use Rattle.filling.proofs.FieldTextLaws.{field-text}
 use Rattle.filling.proofs.TemplateLaws as filling
 use Rattle.filling.proofs.TemplateLaws.{FilledAlready}
-use Rattle.orders.specs.Calls.{textAfterSection, fieldTextOf, fillOf, sheetOf, lacksRoom}
+use Rattle.orders.specs.Calls.{fieldTextOf, fillOf, sheetOf, lacksRoom}
 use Rattle.orders.specs.Promise.{Filled}
 use Rattle.orders.proofs.CheckLaws.{read-back, checks}
 use Rattle.orders.proofs.Orders.{Call, call, accepted-after, InTurn, first-lacks, second-lacks, accepted, turns, second-length}

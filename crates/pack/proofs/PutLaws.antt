@@ -9,7 +9,7 @@ use lib.Seq.{sets, sets-eq, length-sets, drop-drop}
 use Rattle.numbers.specs.Little.{bytesOf, span, laid}
 use Rattle.numbers.proofs.LittleLaws.{length-bytesOf, laid-fits, laid-not, laid-sets, part-rest}
 use Rattle.records.specs.Records.{Rec, headerWord, leadOf, headerOf, encodeOne, size}
-use Rattle.records.proofs.HeaderLaws.{lead-short, lead-long}
+use Rattle.records.proofs.HeaderLaws.{lead-long}
 use Rattle.records.proofs.ReadingLaws.{header-short, header-long, length-headerOf, length-encodeOne}
 
 -- stores one behind the other

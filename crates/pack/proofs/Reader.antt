@@ -1,6 +1,6 @@
 -- The reader's statement (document 01, demand 2): pack accepts, and with which length, exactly when the lists are long enough, each row
 -- is sound, and the stream of the records is within the limit and the buffer. Assumes nothing.
-use Prim.Native.Nat.{ℕ, _+_, _≤_, _<_}
+use Prim.Native.Nat.{ℕ, _+_, _≤_}
 use native.Mathlib.Omega.{arith}
 use native.Mathlib.Decide.{decLe}
 use native.Mathlib.Nat.{lt-of-not-le}

@@ -1,17 +1,17 @@
 -- The rows of a table that read wrote, and the records that rows point to. Assumes nothing.
-use Prim.Native.Nat.{ℕ, zero, suc, _+_, _-_, _≤_, _<_}
+use Prim.Native.Nat.{ℕ, zero, suc, _+_, _-_, _≤_}
 use native.Mathlib.Omega.{arith}
 use mathlib.Core.Path.{_≡_, refl, sym, ap, ap₂, _∙_}
 use mathlib.Core.List.{List, [], _∷_, _++_, map, append-assoc}
 use lib.ListN.{length, getD, take, drop, length-append, length-drop}
 use lib.Seq.{take-at, drop-at, drop-drop, take-append-seam}
-use Rattle.records.specs.Records.{Rec, limit, leadOf, headerOf, encodeOne, encode, size, RecordObeys, Lawful}
+use Rattle.records.specs.Records.{Rec, limit, leadOf, headerOf, encodeOne, encode, size, Lawful}
 use Rattle.records.specs.Table.{tagOf, levelOf, lengthOf, placesFrom, written, Table}
 use Rattle.records.proofs.HeaderLaws.{length-part}
 use Rattle.records.proofs.ReadingLaws.{length-headerOf, length-encodeOne, size-least}
 use Rattle.records.proofs.ScanLaws.{length-encode}
 use Rattle.pack.specs.Rows.{recordOf, Row, rowOf, rows, pointed, records, Inside}
-use Rattle.pack.specs.Packing.{SoundRow, SoundRows}
+use Rattle.pack.specs.Packing.{SoundRows}
 
 -- ---- the rows of a table that read wrote
 

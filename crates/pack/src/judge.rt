@@ -6,7 +6,6 @@ use records::Offset;
 use records::bits;
 ghost use mathlib.Core.Path.{_≡_};
 ghost use Prim.Native.Nat.{_+_, _≤_, _<_, min};
-ghost use lib.ListN.{length};
 ghost use Rattle.records.specs.Answers.{placeBits, hostForm};
 ghost use Rattle.records.specs.Records.{leadOf};
 ghost use Rattle.records.specs.Table.{shortest};

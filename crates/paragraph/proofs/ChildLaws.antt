@@ -1,7 +1,7 @@
 -- A view owns children of its header as every record has them: those records, with tags 67 to 71, whose parent it is. Assumes nothing.
 use Prim.Native.Nat.{ℕ, suc, _+_}
 use native.Mathlib.Omega.{arith}
-use mathlib.Core.Path.{_≡_, refl, sym, ap, _∙_}
+use mathlib.Core.Path.{_≡_, refl, ap, _∙_}
 use mathlib.Core.Bool.{Bool, true, false, cond, _&&_}
 use mathlib.Core.List.{List, [], _∷_}
 use lib.Dec.{ltb, leb, eqb}
@@ -9,7 +9,7 @@ use Rattle.records.specs.Kinds as kind
 use Rattle.records.specs.Records.{Rec, Lawful}
 use Rattle.records.specs.Parents.{WithParent, keepIf, children}
 use Rattle.records.proofs.ParentLaws.{children-exactly}
-use Rattle.paragraph.specs.View.{side, keep, kids, ownedOf, View, view}
+use Rattle.paragraph.specs.View.{side, keep, kids, ownedOf, view}
 use Rattle.paragraph.specs.declared.view.Side.the-variants as S
 
 step : (beyond direct tagged : Bool) (r : Rec) (k c : List Rec) → (leb kind.text (r .tag) && leb (r .tag) kind.controlHeader) ≡ tagged → k ≡ ownedOf c

@@ -7,7 +7,7 @@ use pack::put_header;
 use records::Offset;
 ghost use mathlib.Core.Path.{_≡_};
 ghost use Prim.Native.Nat.{_+_, min};
-ghost use lib.ListN.{length, take, drop};
+ghost use lib.ListN.{take, drop};
 ghost use Rattle.numbers.specs.Little.{bytesOf};
 ghost use Rattle.records.specs.Records.{headerOf};
 ghost use Rattle.putting.specs.Putting.{largest, Puts};

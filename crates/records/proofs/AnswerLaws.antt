@@ -1,12 +1,20 @@
--- The laws of the host's form. Assumes nothing.
+-- The laws of answers: what is judged behind read, and the host's form. Assumes nothing.
 use Prim.Native.Nat.{ℕ, _+_, _*_, _/_, _%_, _≤_, _<_}
 use native.Mathlib.Omega.{arith}
-use mathlib.Core.Path.{_≡_, refl, sym, ap, _∙_, subst}
+use mathlib.Core.Path.{_≡_, refl, sym, subst}
+use mathlib.Core.Option.{Option, none, some}
 use Rattle.records.specs.Records.{limit}
+use Rattle.records.specs.Table.{afterRead}
 use Rattle.records.specs.Answers.{numberOf, placeBits, hostForm, number, place}
 use Rattle.records.specs.declared.fault.Refusal.{Refusal}
 use Rattle.records.specs.declared.fault.Answer.{Answer}
 use Rattle.records.specs.declared.fault.Answer.the-variants as A
+
+-- what is judged behind read is accepted only where read accepts and nothing is at fault
+pub judged-accepted : (a : Answer) (o : Option Refusal) (n : ℕ) → afterRead a o ≡ A.Accepted n → (a ≡ A.Accepted n) × (o ≡ none)
+judged-accepted (A.Accepted m) none n e = (e, refl)
+judged-accepted (A.Accepted m) (some r) n e = absurd (let z : _≡_ {A = ℕ} 0 1 = cc in omega arith)
+judged-accepted (A.Refused r) o n e = absurd (let z : _≡_ {A = ℕ} 0 1 = cc in omega arith)
 
 abbrev Formed : Answer → ℕ → Type 0
 Formed a h = h ≡ hostForm (number a) (placeBits (place a)) 0

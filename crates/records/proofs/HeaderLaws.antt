@@ -3,17 +3,16 @@ use Prim.Native.Nat.{ℕ, _+_, _-_, _/_, _%_, _≤_, _<_}
 use native.Mathlib.Omega.{arith}
 use native.Mathlib.Decide.{decLe}
 use native.Mathlib.Nat.{lt-of-not-le}
-use mathlib.Core.Path.{_≡_, refl, sym, ap, _∙_}
+use mathlib.Core.Path.{_≡_, ap}
 use mathlib.Core.List.{List}
 use lib.ListN.{length, take, drop, length-drop}
 use lib.Seq.{length-take-le}
 use borrow.Author.Tests.{lt-ltb, le-ltb, eq-eqb, ne-eqb}
 use Rattle.numbers.specs.Little.{little}
-use Rattle.records.specs.Records.{Rec, leadOf}
-use Rattle.records.specs.Reading.{Stands, whole, fault, guard, bodyAt, longAt, wordAt, standsAt, frontOf}
+use Rattle.records.specs.Records.{leadOf}
+use Rattle.records.specs.Reading.{guard, bodyAt, longAt, wordAt, standsAt, frontOf}
 use Rattle.records.specs.declared.fault.Fault.the-variants as F
 use Rattle.records.specs.declared.header.Header.{Header}
-use Rattle.records.specs.declared.header.Front.{Front}
 use Rattle.records.specs.declared.header.Front.the-variants as H
 
 pub lead-short : (n : ℕ) → n < 4095 → leadOf n ≡ 4

@@ -1,12 +1,12 @@
 -- The reader's statement (document 01, demand 2): read accepts a stream, given room, exactly when the stream is the encoding of a list of
 -- records that obeys the tag and level rules; the table is that list. Assumes nothing.
 use Prim.Native.Nat.{ℕ, _≤_}
-use mathlib.Core.Path.{_≡_, refl, sym, ap, _∙_, subst}
+use mathlib.Core.Path.{_≡_, sym, ap, _∙_, subst}
 use mathlib.Core.Option.{none}
 use mathlib.Core.List.{List}
 use lib.ListN.{length}
 use Rattle.numbers.specs.Little.{Bytes}
-use Rattle.records.specs.Records.{Rec, limit, encode, Lawful, Encodes}
+use Rattle.records.specs.Records.{Rec, limit, Encodes}
 use Rattle.records.specs.Reading.{Read, readFrom, readAll}
 use Rattle.records.specs.Table.{readAnswer}
 use Rattle.records.specs.declared.fault.Answer.the-variants as A

@@ -3,20 +3,21 @@ use Prim.Native.Nat.{ℕ, zero, suc, _+_, _-_, _*_, _≤_, _<_}
 use native.Mathlib.Omega.{arith}
 use native.Mathlib.Decide.{decLe}
 use native.Mathlib.Nat.{lt-of-not-le, zero-add, add-zero, sub-zero}
-use mathlib.Core.Path.{_≡_, refl, sym, ap, _∙_, subst}
+use mathlib.Core.Path.{_≡_, refl, ap, _∙_, subst}
 use mathlib.Core.Bool.{Bool, true, false, cond}
 use mathlib.Core.Option.{Option, none, some}
-use mathlib.Core.List.{List, [], _∷_, _++_}
+use mathlib.Core.List.{List, [], _∷_}
 use lib.Dec.{ltb, leb, eqb}
 use lib.ListN.{length, take, drop, length-append}
 use borrow.Author.Tests.{leb-true, ltb-false, lt-ltb, le-ltb, le-leb, lt-leb, eq-eqb, ne-eqb}
 use Rattle.numbers.specs.Little.{Bytes}
-use Rattle.records.specs.Records.{Rec, limit, encodeOne, encode, size}
+use Rattle.records.specs.Records.{Rec, limit, encode, size}
 use Rattle.records.specs.Answers.{refusedAt, place}
 use Rattle.records.specs.Reading.{Read, onto, readFrom, readAll}
-use Rattle.records.specs.Table.{roomFor, stopped, answerOf, readAnswer}
+use Rattle.records.specs.Table.{roomFor, stopped, answerOf, readAnswer, afterRead}
 use Rattle.records.specs.declared.fault.Fault.{Fault}
 use Rattle.records.specs.declared.fault.Fault.the-variants as F
+use Rattle.records.specs.declared.fault.Refusal.{Refusal}
 use Rattle.records.specs.declared.fault.Answer.{Answer}
 use Rattle.records.specs.declared.header.Record.{Record}
 use Rattle.records.specs.declared.fault.Answer.the-variants as A
@@ -171,21 +172,21 @@ take-bytes (suc n) [] = omega arith
 take-bytes (suc n) (r ∷ rs) = omega (arith, length-encode r rs, length-encode r (take n rs), take-bytes n rs)
 
 module _ (s : List ℕ) (room : ℕ) (bs : Bytes s) where
-  abbrev Near : Answer → Type 0
-  Near a = place a ≤ limit
+  abbrev Small : Answer → Type 0
+  Small a = place a ≤ limit
 
   near-room : length s ≤ limit → (b : Bool)
-      → Near (cond b (A.Accepted (length (readAll s .recs))) (refusedAt F.NoRoom (length (encode (take room (readAll s .recs))))))
+      → Small (cond b (A.Accepted (length (readAll s .recs))) (refusedAt F.NoRoom (length (encode (take room (readAll s .recs))))))
   unfolding readAll
   near-room h true = omega (arith, records-bytes (readFrom 0 0 s .recs), read-prefix 0 s bs)
   near-room h false = omega (arith, take-bytes room (readFrom 0 0 s .recs), read-prefix 0 s bs)
 
-  near-stop : length s ≤ limit → (o : Option Fault) → Near (stopped o (length (encode (readAll s .recs))) (roomFor room (readAll s .recs)))
+  near-stop : length s ≤ limit → (o : Option Fault) → Small (stopped o (length (encode (readAll s .recs))) (roomFor room (readAll s .recs)))
   unfolding stopped roomFor readAll
   near-stop h none = near-room h (leb (length (readAll s .recs)) room)
   near-stop h (some f) = omega (arith, read-prefix 0 s bs)
 
-  near-limit : (b : Bool) → ltb limit (length s) ≡ b → Near (cond b (refusedAt F.StreamTooLong 0) (answerOf room (readAll s)))
+  near-limit : (b : Bool) → ltb limit (length s) ≡ b → Small (cond b (refusedAt F.StreamTooLong 0) (answerOf room (readAll s)))
   unfolding answerOf
   near-limit true q = omega arith
   near-limit false q = near-stop (ltb-false _ _ q) (readAll s .stop)
@@ -198,3 +199,19 @@ module _ (s : List ℕ) (room : ℕ) (bs : Bytes s) where
   pub records-near : (n : ℕ) → readAnswer s room ≡ A.Accepted n → length (encode (readAll s .recs)) ≤ limit
   unfolding readAll
   records-near n e = omega (arith, accepted s room n e .small, read-prefix 0 s bs)
+
+-- ---- and so is that of what is judged behind read
+
+-- a refusal, if there is one, at `end` or before it
+abbrev pub Near : ℕ → Option Refusal → Type 0
+Near end none = Unit {0}
+Near end (some r) = r .place .0 ≤ end
+
+pub judged-near : (s : List ℕ) (room : ℕ) → Bytes s → (o : Option Refusal) → Near (length (encode (readAll s .recs))) o
+    → place (afterRead (readAnswer s room) o) ≤ limit
+judged-near s room bs o near = by (readAnswer s room) refl o near
+  where
+    by : (a : Answer) → readAnswer s room ≡ a → (o : Option Refusal) → Near (length (encode (readAll s .recs))) o → place (afterRead a o) ≤ limit
+    by (A.Accepted n) e none near = subst (λ (a : Answer). place a ≤ limit) e (answer-near s room bs)
+    by (A.Accepted n) e (some r) near = omega (arith, near, records-near s room bs n e)
+    by (A.Refused r) e o near = subst (λ (a : Answer). place a ≤ limit) e (answer-near s room bs)

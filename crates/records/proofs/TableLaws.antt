@@ -1,15 +1,14 @@
 -- The second pass: entering the table into four lists, column by column. Assumes nothing.
-use Prim.Native.Nat.{ℕ, zero, suc, _+_, _-_, _≤_, _<_}
+use Prim.Native.Nat.{ℕ, suc, _+_, _-_, _≤_, _<_}
 use native.Mathlib.Omega.{arith}
 use native.Mathlib.Nat.{zero-add}
 use native.Mathlib.Numerals.{add-one}
 use mathlib.Core.Path.{_≡_, refl, sym, ap, _∙_}
-use mathlib.Core.Option.{none, some}
-use mathlib.Core.List.{List, [], _∷_, _++_, map}
+use mathlib.Core.List.{List, [], _∷_, map}
 use lib.ListN.{length, drop, set, length-set, length-map}
 use lib.Seq.{sets, sets-eq}
 use Rattle.records.specs.Records.{Rec, limit, leadOf, size}
-use Rattle.records.specs.Reading.{Read, onto, readFrom, readAll}
+use Rattle.records.specs.Reading.{onto, readFrom, readAll}
 use Rattle.records.specs.Table.{tagOf, levelOf, lengthOf, placesFrom, written, Table, shortest}
 use Rattle.records.specs.declared.header.Record.{Record}
 use Rattle.records.proofs.ReadingLaws.{Here}

@@ -11,6 +11,7 @@ use Rattle.records.specs.Answers.{refusedAt}
 use Rattle.records.specs.Reading.{Read, readAll}
 use Rattle.records.specs.declared.fault.Fault.{Fault}
 use Rattle.records.specs.declared.fault.Fault.the-variants as F
+use Rattle.records.specs.declared.fault.Refusal.{Refusal}
 use Rattle.records.specs.declared.fault.Answer.{Answer}
 use Rattle.records.specs.declared.fault.Answer.the-variants as A
 
@@ -30,6 +31,16 @@ answerOf room x = stopped (x .stop) (length (encode (x .recs))) (roomFor room (x
 -- read's answer where the shortest list has `room` entries: 1, then the records, then 7
 unfoldable pub readAnswer : List ℕ → ℕ → Answer
 readAnswer s room = cond (ltb limit (length s)) (refusedAt F.StreamTooLong 0) (answerOf room (readAll s))
+
+-- accepted with n where nothing is at fault
+abbrev pub settled : ℕ → Option Refusal → Answer
+settled n none = A.Accepted n
+settled n (some r) = A.Refused r
+
+-- read's answer, then what is at fault with the records beyond that: the section read and the DocInfo read
+abbrev pub afterRead : Answer → Option Refusal → Answer
+afterRead (A.Accepted n) fault = settled n fault
+afterRead (A.Refused r) fault = A.Refused r
 
 -- the records that an answer enters into the table: a refusal enters none
 abbrev pub entered : Answer → List Rec → List Rec

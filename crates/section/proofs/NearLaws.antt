@@ -1,30 +1,21 @@
 -- Every place that check and the section read answer is within the limit. Assumes nothing.
 use Prim.Native.Nat.{ℕ, _+_, _≤_}
 use native.Mathlib.Omega.{arith}
-use mathlib.Core.Path.{_≡_, refl, subst}
 use mathlib.Core.Bool.{Bool, true, false, cond}
-use mathlib.Core.Option.{Option, none, some}
+use mathlib.Core.Option.{Option, some}
 use mathlib.Core.List.{List, [], _∷_}
 use lib.ListN.{length}
 use Rattle.numbers.specs.Little.{Bytes}
 use Rattle.records.specs.Records.{Rec, limit, encode, size}
 use Rattle.records.specs.Reading.{readAll}
-use Rattle.records.specs.Table.{readAnswer}
 use Rattle.records.specs.Answers.{place}
 use Rattle.records.specs.declared.fault.Refusal.{Refusal}
-use Rattle.records.specs.declared.fault.Answer.{Answer}
-use Rattle.records.specs.declared.fault.Answer.the-variants as A
-use Rattle.records.proofs.ScanLaws.{length-encode, answer-near, records-near}
+use Rattle.records.proofs.ScanLaws.{length-encode, Near, judged-near}
 use Rattle.paragraph.specs.declared.finding.Finding.{Finding}
 use Rattle.paragraph.specs.declared.finding.Finding.the-variants as G
 use Rattle.paragraph.proofs.NearLaws.{place-near}
 use Rattle.section.specs.Parents.{misplaced, strayFrom}
-use Rattle.section.specs.Section.{refusalOr, findingOf, paragraphsFault, strayOr, sectionFault, settled, ruled, sectionAnswer, checkAnswer}
-
--- a refusal, if there is one, at `end` or before it
-abbrev Near : ℕ → Option Refusal → Type 0
-Near end none = Unit {0}
-Near end (some r) = r .place .0 ≤ end
+use Rattle.section.specs.Section.{refusalOr, findingOf, paragraphsFault, strayOr, sectionFault, sectionAnswer, checkAnswer}
 
 paragraphs-near : (at end : ℕ) (rs : List Rec) → at + length (encode rs) ≤ end → Near end (paragraphsFault at rs)
 unfolding paragraphsFault
@@ -52,19 +43,9 @@ unfolding sectionFault
 section-fault-near rs =
     stray-near 0 (length (encode rs)) [] rs (paragraphsFault 0 rs) (omega arith) (paragraphs-near 0 (length (encode rs)) rs (omega arith))
 
-settled-near : (n end : ℕ) (o : Option Refusal) → n ≤ limit → end ≤ limit → Near end o → place (settled n o) ≤ limit
-settled-near n end none h k near = h
-settled-near n end (some r) h k near = omega (arith, k, near)
-
 pub section-near : (s : List ℕ) (room : ℕ) → Bytes s → place (sectionAnswer s room) ≤ limit
 unfolding sectionAnswer
-section-near s room bs = by (readAnswer s room) refl
-  where
-    by : (a : Answer) → readAnswer s room ≡ a → place (ruled (readAll s .recs) a) ≤ limit
-    by (A.Accepted n) e =
-        settled-near n (length (encode (readAll s .recs))) (sectionFault (readAll s .recs))
-        (subst (λ (a : Answer). place a ≤ limit) e (answer-near s room bs)) (records-near s room bs n e) (section-fault-near (readAll s .recs))
-    by (A.Refused r) e = subst (λ (a : Answer). place a ≤ limit) e (answer-near s room bs)
+section-near s room bs = judged-near s room bs (sectionFault (readAll s .recs)) (section-fault-near (readAll s .recs))
 
 pub check-near : (s : List ℕ) → Bytes s → place (checkAnswer s) ≤ limit
 unfolding checkAnswer

@@ -1,17 +1,16 @@
 -- The passes of a section over the stream are the rules over its records. Assumes nothing.
-use Prim.Native.Nat.{ℕ, zero, suc, _+_, _-_, _≤_, _<_}
+use Prim.Native.Nat.{ℕ, _-_}
 use native.Mathlib.Omega.{arith}
-use mathlib.Core.Path.{_≡_, refl, sym, ap, ap₂, _∙_, subst}
-use mathlib.Core.Bool.{Bool, true, false, cond}
+use mathlib.Core.Path.{_≡_, refl, sym, ap, ap₂, _∙_}
 use mathlib.Core.Option.{Option, none, some}
 use mathlib.Core.List.{List, [], _∷_}
 use lib.ListN.{drop}
 use borrow.Author.Tests.{eq-eqb, ne-eqb}
 use Rattle.numbers.specs.Little.{Bytes}
-use Rattle.records.specs.Records.{Rec, size}
+use Rattle.records.specs.Records.{Rec}
 use Rattle.records.specs.Reading.{readAll}
 use Rattle.records.specs.Answers.{refusedAt}
-use Rattle.records.specs.Table.{readAnswer, entered}
+use Rattle.records.specs.Table.{readAnswer, settled, afterRead}
 use Rattle.records.specs.declared.fault.Fault.{Fault}
 use Rattle.records.specs.declared.fault.Fault.the-variants as F
 use Rattle.records.specs.declared.fault.Refusal.{Refusal}
@@ -20,6 +19,7 @@ use Rattle.records.specs.declared.fault.Answer.the-variants as A
 use Rattle.records.specs.Reading.{offset}
 use Rattle.records.specs.declared.fault.Offset.{Offset}
 use Rattle.records.specs.declared.header.Record.{Record}
+use Rattle.records.proofs.AnswerLaws.{judged-accepted}
 use Rattle.records.proofs.ScanLaws.{accepted}
 use Rattle.paragraph.specs.Stream.{recordsIn}
 use Rattle.paragraph.specs.Rules.{firstFault}
@@ -30,7 +30,7 @@ use Rattle.paragraph.specs.declared.finding.Finding.the-variants as G
 use Rattle.paragraph.proofs.StreamLaws.{Read, in-read}
 use Rattle.section.specs.Parents.{header, strayFrom}
 use Rattle.section.specs.Seats.{strayOf}
-use Rattle.section.specs.Section.{refusal, refusalOr, findingOf, paragraphsFault, strayOr, sectionFault, settled, ruled, sectionAnswer, checkAnswer}
+use Rattle.section.specs.Section.{refusalOr, findingOf, paragraphsFault, strayOr, sectionFault, sectionAnswer}
 use Rattle.section.specs.declared.parents.Stray.{Stray}
 use Rattle.section.specs.declared.parents.Stray.the-variants as Y
 
@@ -107,26 +107,17 @@ module _ (s : List ℕ) (room : ℕ) (x : Answer) (is : x ≡ readAnswer s room)
       let k = accepted s room n (sym is ∙ e) in
       q
       ∙ ap (λ (l : List Rec). settled n (strayOr (strayFrom 0 [] (readAll s .recs)) (paragraphsFault 0 l))) (in-read s bs (k .whole))
-      ∙ ap (ruled (readAll s .recs)) (sym e ∙ is)
+      ∙ ap (λ (a : Answer). afterRead a (sectionFault (readAll s .recs))) (sym e ∙ is)
 
   pub answer-refused : (r : Refusal) → x ≡ A.Refused r → A.Refused r ≡ sectionAnswer s room
   unfolding sectionAnswer
-  answer-refused r e = ap (ruled (readAll s .recs)) (sym e ∙ is)
+  answer-refused r e = ap (λ (a : Answer). afterRead a (sectionFault (readAll s .recs))) (sym e ∙ is)
 
 -- ---- what an acceptance says: read accepts too, and enters all records
 
-ruled-accepted : (rs : List Rec) (a : Answer) (n : ℕ) → ruled rs a ≡ A.Accepted n → a ≡ A.Accepted n
-unfolding sectionFault
-ruled-accepted rs (A.Refused r) n e = e
-ruled-accepted rs (A.Accepted m) n e = go (sectionFault rs) e
-  where
-    go : (o : Option Refusal) → settled m o ≡ A.Accepted n → A.Accepted m ≡ A.Accepted n
-    go none q = q
-    go (some r) q = absurd (let z : _≡_ {A = ℕ} 0 1 = cc in omega arith)
-
 pub section-accepted : (s : List ℕ) (room n : ℕ) → sectionAnswer s room ≡ A.Accepted n → readAnswer s room ≡ A.Accepted n
 unfolding sectionAnswer
-section-accepted s room n e = ruled-accepted (readAll s .recs) (readAnswer s room) n e
+section-accepted s room n e = judged-accepted (readAnswer s room) (sectionFault (readAll s .recs)) n e .0
 
 -- where the section is accepted, its answer is read's
 pub section-read : (s : List ℕ) (room n : ℕ) (x y : Answer) → x ≡ sectionAnswer s room → x ≡ A.Accepted n → y ≡ readAnswer s room → y ≡ sectionAnswer s room

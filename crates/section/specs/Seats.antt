@@ -3,7 +3,7 @@
 -- The pass keeps one number for each level: 32 below a record 67 to 70, 16 below any other record that is no paragraph header, and below a
 -- paragraph header one bit for each of 67 to 70 that it has already.
 use Prim.Native.Nat.{ℕ, _+_, _/_, _%_}
-use mathlib.Core.Bool.{Bool, true, false, cond}
+use mathlib.Core.Bool.{Bool, cond}
 use mathlib.Core.Option.{Option, none, some}
 use lib.Dec.{leb, eqb}
 use Rattle.records.specs.Kinds as kind

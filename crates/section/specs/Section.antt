@@ -3,16 +3,14 @@ use Prim.Native.Nat.{ℕ, _+_}
 use mathlib.Core.Bool.{cond}
 use mathlib.Core.Option.{Option, none, some}
 use mathlib.Core.List.{List, [], _∷_}
-use lib.Dec.{eqb}
 use lib.ListN.{length}
 use Rattle.records.specs.Records.{Rec, size}
 use Rattle.records.specs.Reading.{readAll}
-use Rattle.records.specs.Table.{readAnswer}
+use Rattle.records.specs.Table.{readAnswer, afterRead}
 use Rattle.records.specs.declared.fault.Fault.{Fault}
 use Rattle.records.specs.declared.fault.Fault.the-variants as F
 use Rattle.records.specs.declared.fault.Refusal.{Refusal}
 use Rattle.records.specs.declared.fault.Answer.{Answer}
-use Rattle.records.specs.declared.fault.Answer.the-variants as A
 use Rattle.paragraph.specs.Rules.{firstFault}
 use Rattle.paragraph.specs.Places.{placeOf}
 use Rattle.paragraph.specs.declared.finding.Finding.{Finding}
@@ -47,19 +45,9 @@ strayOr (some p) rest = some (refusal F.Misplaced p)
 unfoldable pub sectionFault : List Rec → Option Refusal
 sectionFault rs = strayOr (strayFrom 0 [] rs) (paragraphsFault 0 rs)
 
--- accepted with n where nothing is at fault
-abbrev pub settled : ℕ → Option Refusal → Answer
-settled n none = A.Accepted n
-settled n (some r) = A.Refused r
-
--- read's answer, then the section's rules
-abbrev pub ruled : List Rec → Answer → Answer
-ruled rs (A.Accepted n) = settled n (sectionFault rs)
-ruled rs (A.Refused r) = A.Refused r
-
 -- the section read, where the shortest list has `room` entries: read's numbers, 7 among them, then the section's
 unfoldable pub sectionAnswer : List ℕ → ℕ → Answer
-sectionAnswer s room = ruled (readAll s .recs) (readAnswer s room)
+sectionAnswer s room = afterRead (readAnswer s room) (sectionFault (readAll s .recs))
 
 -- check is the section read without lists: a stream has room for as many records as bytes, so that 7 is never given
 unfoldable pub checkAnswer : List ℕ → Answer

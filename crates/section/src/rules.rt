@@ -20,10 +20,11 @@ ghost use mathlib.Core.Path.{_≡_};
 ghost use mathlib.Core.List.{[]};
 ghost use lib.ListN.{drop};
 ghost use Rattle.records.specs.Reading.{readAll};
+ghost use Rattle.records.specs.Table.{settled};
 ghost use Rattle.records.specs.Promise.{Promised};
 ghost use Rattle.paragraph.specs.Stream.{recordsIn};
 ghost use Rattle.section.specs.Parents.{strayFrom};
-ghost use Rattle.section.specs.Section.{findingOf, paragraphsFault, strayOr, settled, sectionAnswer, checkAnswer};
+ghost use Rattle.section.specs.Section.{findingOf, paragraphsFault, strayOr, sectionAnswer, checkAnswer};
 
 // The finding of the record at a place, by its tag.
 fn found_at(s: &[u8], at: Offset, tag: u32) -> Finding

@@ -6,7 +6,7 @@ use mathlib.Core.Logic.{_⊎_}
 use mathlib.Core.List.{List}
 use lib.ListN.{length, getD, drop-of-length-le}
 use borrow.Author.Tests.{lt-ltb, le-ltb, eq-eqb, ne-eqb}
-use Rattle.text.specs.Asked.{what, width}
+use Rattle.text.specs.Asked.{what}
 use Rattle.text.specs.Walk.{Sight, takes, frontOf, front}
 use Rattle.text.specs.Answers.{position, cursor, stepOf, stepAt}
 use Rattle.text.specs.declared.Standing.{Standing}

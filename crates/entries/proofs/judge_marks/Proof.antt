@@ -1,9 +1,9 @@
 -- Marks are judged as `marksFault` has it. Assumes nothing.
 use borrow.Author.Needs.{needs}
 use native.Mathlib.Omega.{arith}
-use Prim.Native.Nat.{ℕ, _-_, _*_, _+_}
+use Prim.Native.Nat.{_-_, _*_, _+_}
 use mathlib.Core.Path.{_≡_, ap, _∙_}
-use lib.ListN.{length, drop}
+use lib.ListN.{drop}
 use Rattle.numbers.specs.Little.{little}
 use Rattle.numbers.proofs.LittleLaws.{part-rest}
 use Rattle.entries.proofs.EntryLaws.{Marking, marking-start, marking-turned, marking-beyond, marking-next, marking-end}

@@ -1,9 +1,9 @@
 -- The starts are judged as `shapesFault` has it. Assumes nothing.
 use borrow.Author.Needs.{needs}
 use native.Mathlib.Omega.{arith}
-use Prim.Native.Nat.{ℕ, _-_, _*_}
+use Prim.Native.Nat.{_-_, _*_}
 use mathlib.Core.Path.{_≡_, ap, _∙_}
-use lib.ListN.{length, drop}
+use lib.ListN.{drop}
 use Rattle.numbers.specs.Little.{little}
 use Rattle.numbers.proofs.LittleLaws.{part-rest}
 use Rattle.entries.proofs.EntryLaws.{Rising, shapes-none, shapes-first, rising-start, rising-low, rising-high, rising-next, rising-end}

@@ -1,5 +1,5 @@
 -- 12 to 15 are found as `bodyFault` has it. Assumes nothing.
-use mathlib.Core.Path.{_≡_, sym, ap₂, _∙_}
+use mathlib.Core.Path.{ap₂, _∙_}
 use Rattle.paragraph.specs.Rules.{entryFault}
 use Rattle.paragraph.specs.Places.{bodyFound}
 use Rattle.judgement.proofs.JudgeLaws.{SoundBody, text-sound, text-broken, body-broken, body-entries, body-controls}

@@ -1,11 +1,8 @@
 -- A paragraph is judged as `firstFault` has it. Assumes nothing.
 use native.Mathlib.Omega.{arith}
-use mathlib.Core.Path.{_≡_, sym, ap, _∙_}
+use mathlib.Core.Path.{sym, _∙_}
 use Rattle.numbers.proofs.LittleLaws.{slice-bytes}
 use Rattle.paragraph.proofs.StreamLaws.{Read, read-at, none-at}
-use Rattle.paragraph.specs.Rules.{headFault}
-use Rattle.paragraph.specs.View.{kids}
-use Rattle.paragraph.specs.Stream.{recordsIn}
 use Rattle.judgement.proofs.JudgeLaws.{front-judged, front-none}
 use borrow.Author.Needs.{needs}
 use Rattle.judgement.proofs.judge.judge_paragraph.Statement.{statement}

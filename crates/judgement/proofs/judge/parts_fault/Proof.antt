@@ -1,5 +1,5 @@
 -- 10 to 15 are found as `partsFault` has it. Assumes nothing.
-use mathlib.Core.Path.{_≡_, sym, _∙_}
+use mathlib.Core.Path.{_∙_}
 use Rattle.numbers.proofs.LittleLaws.{slice-bytes}
 use Rattle.judgement.proofs.JudgeLaws.{controls-are, parts-absent, parts-lengths, parts-bodies}
 use borrow.Author.Needs.{needs}

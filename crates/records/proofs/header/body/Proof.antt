@@ -1,5 +1,4 @@
 use native.Mathlib.Omega.{arith}
-use mathlib.Core.Path.{sym, _∙_}
 use Rattle.records.proofs.HeaderLaws.{lead-bounds, body-past, body-whole}
 use Rattle.records.proofs.header.body.Statement.{statement}
 use Rattle.records.proofs.header.body.Tie as tie

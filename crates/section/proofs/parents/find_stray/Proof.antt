@@ -2,7 +2,7 @@
 use borrow.Author.Needs.{needs}
 use native.Mathlib.Omega.{arith}
 use Prim.Native.Nat.{ℕ, _-_, _<_}
-use mathlib.Core.Path.{_≡_, sym, _∙_}
+use mathlib.Core.Path.{sym, _∙_}
 use lib.ListN.{length, length-replicate, getD-replicate}
 use Rattle.numbers.proofs.LittleLaws.{slice-bytes}
 use Rattle.records.proofs.ReadingLaws.{Here, here, none-here}

@@ -1,5 +1,4 @@
 -- Read's answer, then the rules. Assumes nothing.
-use mathlib.Core.Path.{_∙_}
 use Rattle.numbers.proofs.LittleLaws.{slice-bytes}
 use Rattle.section.proofs.SectionLaws.{answer-rules, answer-refused}
 use borrow.Author.Needs.{needs}
