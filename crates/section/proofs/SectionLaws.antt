@@ -28,8 +28,7 @@ use Rattle.paragraph.specs.declared.finding.Which.{Which}
 use Rattle.paragraph.specs.declared.finding.Finding.{Finding}
 use Rattle.paragraph.specs.declared.finding.Finding.the-variants as G
 use Rattle.paragraph.proofs.StreamLaws.{Read, in-read}
-use Rattle.section.specs.Parents.{header, strayFrom}
-use Rattle.section.specs.Seats.{strayOf}
+use Rattle.section.specs.Parents.{header, strayFrom, strayOf}
 use Rattle.section.specs.Section.{refusalOr, findingOf, paragraphsFault, strayOr, sectionFault, sectionAnswer}
 use Rattle.section.specs.declared.parents.Stray.{Stray}
 use Rattle.section.specs.declared.parents.Stray.the-variants as Y

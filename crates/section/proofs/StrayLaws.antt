@@ -13,8 +13,8 @@ use Rattle.records.specs.Reading.{Read, offset, onto, readFrom, readAll}
 use Rattle.records.specs.declared.header.Record.{Record}
 use Rattle.records.proofs.ReadingLaws.{Here}
 use Rattle.text.proofs.Cases.{lt-or, eq-or}
-use Rattle.section.specs.Parents.{misplaced, strayFrom}
-use Rattle.section.specs.Seats.{ownCode, seatOf, strayOf}
+use Rattle.section.specs.Parents.{misplaced, strayFrom, strayOf}
+use Rattle.section.specs.Seats.{ownCode, seatOf}
 use Rattle.section.specs.declared.parents.Seat.{Seat}
 use Rattle.section.specs.declared.parents.Seat.the-variants as T
 use Rattle.section.specs.declared.parents.Stray.the-variants as Y

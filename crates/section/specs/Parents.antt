@@ -7,6 +7,9 @@ use lib.Dec.{ltb, leb, eqb}
 use Rattle.records.specs.Kinds as kind
 use Rattle.records.specs.Records.{Rec, size}
 use Rattle.records.specs.Parents.{parentOf}
+use Rattle.records.specs.Reading.{offset}
+use Rattle.section.specs.declared.parents.Stray.{Stray}
+use Rattle.section.specs.declared.parents.Stray.the-variants as Y
 
 -- an earlier record with the same parent has the tag: by the level rule the children of one parent have one level, and no record of
 -- smaller level stands between them (`doubled-sibling` and `sibling-doubled` in acceptance/proofs/SiblingLaws.antt)
@@ -37,3 +40,8 @@ misplaced r earlier =
 unfoldable pub strayFrom : ℕ → List Rec → List Rec → Option ℕ
 strayFrom at earlier [] = none
 strayFrom at earlier (r ∷ rs) = cond (misplaced r earlier) (some at) (strayFrom (at + size r) (r ∷ earlier) rs)
+
+-- the same as the pass of rule 9 answers it
+abbrev pub strayOf : Option ℕ → Stray
+strayOf none = Y.Nowhere
+strayOf (some p) = Y.At (offset p)

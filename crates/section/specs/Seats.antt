@@ -1,18 +1,14 @@
 -- A mirror of the code of rule 9's pass, of which nothing has to be believed: `seating` (proofs/SeatLaws.antt) says that a record takes its seat
--- exactly where `misplaced`, by `parentOf`, does not name it. The pass promises `strayFrom`; of this file only `strayOf` stands in that promise.
--- The pass keeps one number for each level: 32 below a record 67 to 70, 16 below any other record that is no paragraph header, and below a
--- paragraph header one bit for each of 67 to 70 that it has already.
+-- exactly where `misplaced`, by `parentOf`, does not name it, and what the pass promises is in Parents. The pass keeps one number for each level:
+-- 32 below a record 67 to 70, 16 below any other record that is no paragraph header, and below a paragraph header one bit for each of 67 to 70
+-- that it has already.
 use Prim.Native.Nat.{ℕ, _+_, _/_, _%_}
 use mathlib.Core.Bool.{Bool, cond}
-use mathlib.Core.Option.{Option, none, some}
 use lib.Dec.{leb, eqb}
 use Rattle.records.specs.Kinds as kind
-use Rattle.records.specs.Reading.{offset}
 use Rattle.section.specs.Parents.{leaf, header}
 use Rattle.section.specs.declared.parents.Seat.{Seat}
 use Rattle.section.specs.declared.parents.Seat.the-variants as T
-use Rattle.section.specs.declared.parents.Stray.{Stray}
-use Rattle.section.specs.declared.parents.Stray.the-variants as Y
 
 -- what a record with a tag is to its first child
 unfoldable pub ownCode : ℕ → ℕ
@@ -31,8 +27,3 @@ seatLeaf code tag = cond (leb 16 code) T.Stray (cond (has code tag) T.Stray (T.S
 
 unfoldable pub seatOf : ℕ → ℕ → Seat
 seatOf code tag = cond (eqb code 32) T.Stray (cond (leaf tag) (seatLeaf code tag) (T.Seated code))
-
--- what the pass answers
-abbrev pub strayOf : Option ℕ → Stray
-strayOf none = Y.Nowhere
-strayOf (some p) = Y.At (offset p)

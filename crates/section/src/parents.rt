@@ -7,8 +7,8 @@ ghost use mathlib.Core.Path.{_≡_};
 ghost use mathlib.Core.List.{[]};
 ghost use Prim.Native.Nat.{_≤_};
 ghost use Rattle.records.specs.Reading.{readAll};
-ghost use Rattle.section.specs.Parents.{leaf, strayFrom};
-ghost use Rattle.section.specs.Seats.{ownCode, bitOf, seatLeaf, seatOf, strayOf};
+ghost use Rattle.section.specs.Parents.{leaf, strayFrom, strayOf};
+ghost use Rattle.section.specs.Seats.{ownCode, bitOf, seatLeaf, seatOf};
 
 // What becomes of the number kept for a level where a record stands there.
 pub enum Seat {

@@ -706,7 +706,13 @@ fn a_sheet_that_is_not_read_back_is_caught() {
         0 => answer + 256,
         _ => answer,
     };
-    assert!(caught(Service::Fill, &Twisted { field_text, ..STRAIGHT }));
+    assert!(caught(
+        Service::Fill,
+        &Twisted {
+            field_text,
+            ..STRAIGHT
+        }
+    ));
     let read: OnRead = |_, _| answer(1, 0, 0);
     assert!(caught(Service::Fill, &Twisted { read, ..STRAIGHT }));
 }
