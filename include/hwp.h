@@ -96,8 +96,9 @@ uint64_t hwp_field_text(const uint8_t *section, size_t section_len, uint32_t id)
  *   - bit 15 of the field's properties (contents altered) is set;
  *   - a record whose length passes 4,095 has the header that its new length asks for.
  * An accepted sheet is itself accepted by hwp_check, and hwp_field_text with the same id is accepted and points to the
- * value in it (sheet-accepted and sheet-text in crates/orders/proofs/Promises.antt). The sheet is the section itself only
- * when the field's text was the value already, with its count, and bit 15 set (template-sheet).
+ * value in it (check-back and text-back in crates/host/proofs/ReadBack.antt). The sheet is the section itself only when
+ * the field's text was the value already, with its count, and bit 15 set (template-sheet in
+ * crates/orders/proofs/Promises.antt).
  *
  * A sheet never has more than section_len + value_len + 4 bytes: with that room 26 is not given (accepted-length and
  * enough-room in crates/orders/proofs/Room.antt). All these are theorems.

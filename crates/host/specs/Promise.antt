@@ -1,6 +1,6 @@
 -- What the C face promises: the promise of each call, its answer told as document 01's sum ('What the part does'); and that it leaves no
 -- choice. Assumes nothing.
-use Prim.Native.Nat.{ℕ}
+use Prim.Native.Nat.{ℕ, _/_, _%_}
 use mathlib.Core.Path.{_≡_, sym, ap, _∙_}
 use mathlib.Core.List.{List}
 use Rattle.records.specs.Answers.{sumOf}
@@ -9,6 +9,16 @@ use Rattle.section.specs.Section.{checkAnswer}
 use Rattle.filling.specs.Filling.{textSum}
 use Rattle.orders.specs.Calls.{fieldTextOf}
 use Rattle.orders.specs.Promise.{Filled, fill-determined}
+
+-- the sum taken apart, as hwp_number, hwp_place and hwp_further of include/hwp.h do it
+abbrev pub numberIn : ℕ → ℕ
+numberIn told = told % 256
+
+abbrev pub placeIn : ℕ → ℕ
+placeIn told = told / 256 % 268435456
+
+abbrev pub furtherIn : ℕ → ℕ
+furtherIn told = told / 68719476736
 
 -- of check and of field text the sum is all there is
 pub check-told : (s : List ℕ) {m n : ℕ} → m ≡ sumOf (checkAnswer s) → n ≡ sumOf (checkAnswer s) → m ≡ n

@@ -28,6 +28,12 @@ four s = simp (drop-drop, getD-drop) (omega arith)
 pub bytes-drop : (n : ℕ) (s : List ℕ) → Bytes s → Bytes (drop n s)
 bytes-drop n s b i = rw getD-drop (b (n + i))
 
+pub bytes-take : (n : ℕ) (s : List ℕ) → Bytes s → Bytes (take n s)
+bytes-take zero s b i = omega arith
+bytes-take (suc n) [] b i = omega arith
+bytes-take (suc n) (x ∷ s) b zero = b 0
+bytes-take (suc n) (x ∷ s) b (suc i) = bytes-take n s (λ j. b (suc j)) i
+
 pub little-small : (n : ℕ) (s : List ℕ) → Bytes s → little n s < span n
 unfolding little span
 little-small zero s b = omega arith

@@ -1,13 +1,13 @@
 -- Check accepts a stream exactly if it is the encoding of the records of an accepted section. Assumes nothing.
 use mathlib.Core.Path.{_≡_, refl}
-use Prim.Native.Nat.{ℕ, zero, suc}
+use Prim.Native.Nat.{ℕ}
 use native.Mathlib.Omega.{arith}
 use mathlib.Core.Option.{none}
 use mathlib.Core.List.{List, [], _∷_, _++_}
 use lib.ListN.{length}
-use lib.Seq.{drop-at}
+use lib.Seq.{drop-at, take-at}
 use Rattle.numbers.specs.Little.{Bytes}
-use Rattle.numbers.proofs.LittleLaws.{bytes-drop}
+use Rattle.numbers.proofs.LittleLaws.{bytes-drop, bytes-take}
 use Rattle.records.specs.Records.{Rec, headerOf, encodeOne, encode}
 use Rattle.records.specs.Reading.{readAll}
 use Rattle.records.specs.declared.fault.Answer.the-variants as A
@@ -22,9 +22,7 @@ bytes-behind : (a b : List ℕ) → Bytes (a ++ b) → Bytes b
 bytes-behind a b h = rw (drop-at a b (length a) refl) at (bytes-drop (length a) (a ++ b) h)
 
 bytes-before : (a b : List ℕ) → Bytes (a ++ b) → Bytes a
-bytes-before [] b h i = omega arith
-bytes-before (x ∷ a) b h zero = h 0
-bytes-before (x ∷ a) b h (suc i) = bytes-before a b (λ j. h (suc j)) i
+bytes-before a b h = rw (take-at a b (length a) refl) at (bytes-take (length a) (a ++ b) h)
 
 bodies-bytes : (rs : List Rec) → Bytes (encode rs) → AllBodies Bytes rs
 unfolding encode encodeOne
