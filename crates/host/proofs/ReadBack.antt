@@ -20,19 +20,19 @@ use Rattle.orders.specs.Calls.{fieldTextOf}
 use Rattle.orders.specs.Promise.{Filled}
 use Rattle.orders.proofs.Promises.{sheet-accepted, sheet-text}
 use Rattle.fields.proofs.NearLaws.{fill-call-near, text-call-near}
-use Rattle.host.specs.Promise.{numberIn, placeIn, furtherIn, ToldFill}
+use Rattle.host.specs.Promise.{numberTold, placeTold, furtherTold, ToldFill}
 
 -- what field text tells points to the value in the sheet
 pub record PointsTo (told : ℕ) (value sheet : List ℕ) : Type 0 where
-  pub accepted : numberIn told ≡ 0
-  pub bytes : take (furtherIn told) (drop (placeIn told) sheet) ≡ value
+  pub accepted : numberTold told ≡ 0
+  pub bytes : take (furtherTold told) (drop (placeTold told) sheet) ≡ value
 
 -- an answer whose place is within the limit, taken apart
 apart-of : (a : Answer) → place a ≤ limit → Apart (number a) (place a) 0 (sumOf a)
 apart-of a h = told-apart (number a) (place a) 0 (answer-number a) h
 
 module _ (s : List ℕ) (id : ℕ) (value out : List ℕ) (m : ℕ) (out′ : List ℕ) (bs : Bytes s) (bv : Bytes value) (bo : Bytes out′)
-    (k : ToldFill s id value out m out′) (accepted : numberIn m ≡ 0) where
+    (k : ToldFill s id value out m out′) (accepted : numberTold m ≡ 0) where
   abbrev n : ℕ
   n = place (k .answer)
 
@@ -42,25 +42,25 @@ module _ (s : List ℕ) (id : ℕ) (value out : List ℕ) (m : ℕ) (out′ : Li
       (apart-of (k .answer) (subst (λ (a : Answer). place a ≤ limit) (sym (k .filled .answer)) (fill-call-near s bs id value (length out))))
 
   -- the sheet is the first bytes of the buffer, as many as the place column has
-  length-is : placeIn m ≡ n
+  length-is : placeTold m ≡ n
   length-is = parts .place-is
 
   filled-so : Filled s id value out (A.Accepted n) out′
   filled-so =
       record { answer = sym (zero-accepts (k .answer) (sym (parts .number-is) ∙ accepted)) ∙ k .filled .answer; sheet = k .filled .sheet }
 
-  sheet-same : take (placeIn m) out′ ≡ take n out′
+  sheet-same : take (placeTold m) out′ ≡ take n out′
   sheet-same = ap (λ (i : ℕ). take i out′) length-is
 
   -- check of the sheet
-  pub check-back : (t : ℕ) → t ≡ sumOf (checkAnswer (take (placeIn m) out′)) → numberIn t ≡ 0
+  pub check-back : (t : ℕ) → t ≡ sumOf (checkAnswer (take (placeTold m) out′)) → numberTold t ≡ 0
   check-back t e =
       let c = sheet-accepted s id value out n out′ bs bv filled-so (checkAnswer (take n out′)) refl in
       let a = apart-of (checkAnswer (take n out′)) (check-near (take n out′) (bytes-take n out′ bo)) in
-      ap numberIn (e ∙ ap (λ (x : List ℕ). sumOf (checkAnswer x)) sheet-same) ∙ a .number-is ∙ ap number (c .1)
+      ap numberTold (e ∙ ap (λ (x : List ℕ). sumOf (checkAnswer x)) sheet-same) ∙ a .number-is ∙ ap number (c .1)
 
   -- field text of the sheet
-  pub text-back : (t : ℕ) → t ≡ textSum (fieldTextOf (take (placeIn m) out′) id) → PointsTo t value (take (placeIn m) out′)
+  pub text-back : (t : ℕ) → t ≡ textSum (fieldTextOf (take (placeTold m) out′) id) → PointsTo t value (take (placeTold m) out′)
   text-back t e =
       let f = sheet-text s id value out n out′ bs bv filled-so (fieldTextOf (take n out′) id) refl in
       let near : f .place ≤ limit
@@ -71,6 +71,6 @@ module _ (s : List ℕ) (id : ℕ) (value out : List ℕ) (m : ℕ) (out′ : Li
       record {
         accepted = a .number-is;
         bytes =
-            ap (λ (x : List ℕ). take (furtherIn t) (drop (placeIn t) x)) sheet-same
+            ap (λ (x : List ℕ). take (furtherTold t) (drop (placeTold t) x)) sheet-same
             ∙ ap₂ (λ (i j : ℕ). take i (drop j (take n out′))) (a .further-is) (a .place-is) ∙ f .bytes;
       }

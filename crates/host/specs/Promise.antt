@@ -11,14 +11,14 @@ use Rattle.orders.specs.Calls.{fieldTextOf}
 use Rattle.orders.specs.Promise.{Filled, fill-determined}
 
 -- the sum taken apart, as hwp_number, hwp_place and hwp_further of include/hwp.h do it
-abbrev pub numberIn : ℕ → ℕ
-numberIn told = told % 256
+abbrev pub numberTold : ℕ → ℕ
+numberTold told = told % 256
 
-abbrev pub placeIn : ℕ → ℕ
-placeIn told = told / 256 % 268435456
+abbrev pub placeTold : ℕ → ℕ
+placeTold told = told / 256 % 268435456
 
-abbrev pub furtherIn : ℕ → ℕ
-furtherIn told = told / 68719476736
+abbrev pub furtherTold : ℕ → ℕ
+furtherTold told = told / 68719476736
 
 -- of check and of field text the sum is all there is
 pub check-told : (s : List ℕ) {m n : ℕ} → m ≡ sumOf (checkAnswer s) → n ≡ sumOf (checkAnswer s) → m ≡ n
