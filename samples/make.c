@@ -625,18 +625,8 @@ static void character_shape(unsigned size, uint32_t properties, uint32_t colour)
     n32(0, "colour of the line through");
 }
 
-static void docinfo(void)
+static void document_properties(void)
 {
-    static const char *const counts[16] = {"count 0: binary data",       "count 1: Hangul faces",
-                                           "count 2: Latin faces",       "count 3: Chinese faces",
-                                           "count 4: Japanese faces",    "count 5: other faces",
-                                           "count 6: faces for signs",   "count 7: faces of the user",
-                                           "count 8: borders",           "count 9: character shapes",
-                                           "count 10: tabs",             "count 11: numberings",
-                                           "count 12: bullets",          "count 13: paragraph shapes",
-                                           "count 14: styles",           "count 15: memo shapes"};
-    static const unsigned how_many[16] = {0, 1, 1, 1, 1, 1, 1, 1, 2, 3, 1, 0, 0, 2, 1, 0};
-    memset(&sheet, 0, sizeof sheet);
     record(16, 0, "document properties");
     n16(1, "number of sections (table 9)");
     for (int i = 0; i < 6; i++)
@@ -645,11 +635,42 @@ static void docinfo(void)
     n32(0, "caret: paragraph");
     n32(0, "caret: position");
     n32(0, "properties");
+}
+
+/* Record 17, the mapping counts (tables 10 and 11): so many of them, each so many bytes wide. Those of 32 bits, and
+ * what the last two are about, stand in later revisions than 1.1. */
+static void mapping_counts(int count, size_t width)
+{
+    static const struct {
+        unsigned n;
+        const char *what;
+    } counts[18] = {
+        {0, "count 0: binary data"},
+        {1, "count 1: Hangul faces"},
+        {1, "count 2: Latin faces"},
+        {1, "count 3: Chinese faces"},
+        {1, "count 4: Japanese faces"},
+        {1, "count 5: other faces"},
+        {1, "count 6: faces for signs"},
+        {1, "count 7: faces of the user"},
+        {2, "count 8: borders"},
+        {3, "count 9: character shapes"},
+        {1, "count 10: tabs"},
+        {0, "count 11: numberings"},
+        {0, "count 12: bullets"},
+        {2, "count 13: paragraph shapes"},
+        {1, "count 14: styles"},
+        {0, "count 15: memo shapes"},
+        {0, "count 16: tracked changes, not asked"},
+        {1, "count 17: authors of tracked changes, not asked"},
+    };
     record(17, 0, "counts");
-    for (int i = 0; i < 16; i++)
-        n16(how_many[i], counts[i]);
-    for (int i = 0; i < 7; i++)
-        face(u"함초롬바탕");
+    for (int i = 0; i < count; i++)
+        number(counts[i].n, width, counts[i].what);
+}
+
+static void borders(void)
+{
     for (int i = 0; i < 2; i++) {
         record(20, 1, "border");
         n16(0, "properties (table 19)");
@@ -665,12 +686,10 @@ static void docinfo(void)
         n32(0, "kind of filling: none");
         n32(0, "further bytes of the filling: none");
     }
-    character_shape(1000, 0, 0);
-    character_shape(1000, 2, 0);
-    character_shape(1000, 0, 0x000000FF);
-    record(22, 1, "tabs");
-    n32(0, "properties (table 32)");
-    n16(0, "number of tabs: none");
+}
+
+static void paragraph_shapes(void)
+{
     for (int i = 0; i < 2; i++) {
         record(25, 1, "paragraph shape");
         n32(i ? 0x18C : 0x180, "properties 1: first to both sides, second centred (table 39)");
@@ -688,6 +707,10 @@ static void docinfo(void)
         n32(0, "properties 3: by the characters (table 41)");
         n32(160, "line spacing in percent");
     }
+}
+
+static void style(void)
+{
     record(26, 1, "style");
     n16(3, "units of its name");
     units(u"바탕글", "its name: 'body'");
@@ -698,11 +721,38 @@ static void docinfo(void)
     n16(1042, "language");
     n16(0, "paragraph shape id");
     n16(0, "character shape id");
+}
+
+/* What the mapping counts are about, and what stands behind it. */
+static void mapped(void)
+{
+    for (int i = 0; i < 7; i++)
+        face(u"함초롬바탕");
+    borders();
+    character_shape(1000, 0, 0);
+    character_shape(1000, 2, 0);
+    character_shape(1000, 0, 0x000000FF);
+    record(22, 1, "tabs");
+    n32(0, "properties (table 32)");
+    n16(0, "number of tabs: none");
+    paragraph_shapes();
+    style();
     record(30, 0, "compatible document");
     n32(0, "target: the present version (table 50)");
     record(31, 1, "layout compatibility");
     zeros(20, "five kinds of formatting: as the present version (table 51)");
 }
+
+static void docinfo_of(int count, size_t width)
+{
+    memset(&sheet, 0, sizeof sheet);
+    document_properties();
+    mapping_counts(count, width);
+    mapped();
+}
+
+static void docinfo(void) { docinfo_of(16, 2); }
+static void current_docinfo(void) { docinfo_of(18, 4); } /* as current word processors save it */
 
 /* ---- streams ---- */
 
@@ -842,17 +892,8 @@ static void properties_twice(void)
 }
 static void counts_below(void) { the("counts")->level = 1; }
 static void properties_of_29(void) { the("document properties")->len = 29; }
-static void counts_of_60(void)
-{ /* fifteen counts of 32 bits, as later word processors write them */
-    struct record *r = the("counts");
-    uint8_t old[32];
-    memcpy(old, r->body, 32);
-    r->len = 60;
-    r->npieces = 0;
-    memset(r->body, 0, 60);
-    for (int i = 0; i < 15; i++)
-        memcpy(r->body + 4 * i, old + 2 * i, 2);
-}
+static void counts_of_56(void) { the("counts")->len = 56; /* fourteen counts of 32 bits */ }
+static void counts_of_62(void) { the("counts")->len = 62; /* fifteen, and half a count */ }
 static void count_negative(void) { put_half(the("counts"), 0, 0xFFFF); }
 static void face_lost(void) { take_away(index_of("face")); }
 
@@ -902,7 +943,8 @@ static const struct sample {
     {"damaged/16-properties-twice.docinfo", docinfo, properties_twice, 16, "second", 0},
     {"damaged/16-counts-at-level-1.docinfo", docinfo, counts_below, 16, "counts", 0},
     {"damaged/17-properties-of-29.docinfo", docinfo, properties_of_29, 17, "document properties", 0},
-    {"damaged/17-counts-of-32-bits.docinfo", docinfo, counts_of_60, 17, "counts", 0},
+    {"damaged/17-counts-of-56.docinfo", current_docinfo, counts_of_56, 17, "counts", 0},
+    {"damaged/17-counts-of-62.docinfo", current_docinfo, counts_of_62, 17, "counts", 0},
     {"damaged/18-count-negative.docinfo", docinfo, count_negative, 18, "counts", 0},
     {"damaged/18-face-lost.docinfo", docinfo, face_lost, 18, "counts", 0},
 };
