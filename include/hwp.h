@@ -160,7 +160,8 @@ static inline const char *hwp_words(unsigned number)
     case HWP_DOCINFO_RECORD:
         return "DocInfo lacks record 16 or 17, has one twice, or has one that is not at level 0";
     case HWP_DOCINFO_LENGTH:
-        return "record 16 of DocInfo has fewer than 30 bytes, or record 17 does not have 32";
+        return "record 16 of DocInfo has fewer than 30 bytes, or record 17 neither 32 nor a multiple of four from "
+               "60 up";
     case HWP_COUNT_UNMATCHED:
         return "a count in record 17 of DocInfo is negative, or is not the number of records below it";
     case HWP_VALUE_WRONG:

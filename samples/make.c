@@ -753,6 +753,7 @@ static void docinfo_of(int count, size_t width)
 
 static void docinfo(void) { docinfo_of(16, 2); }
 static void current_docinfo(void) { docinfo_of(18, 4); } /* as current word processors save it */
+static void docinfo_of_15(void) { docinfo_of(15, 4); }   /* without the count of memo shapes */
 
 /* ---- streams ---- */
 
@@ -812,6 +813,12 @@ static void put_half(struct record *r, size_t at, unsigned n)
 {
     r->body[at] = (uint8_t)n;
     r->body[at + 1] = (uint8_t)(n >> 8);
+}
+
+static void put_word(struct record *r, size_t at, uint32_t n)
+{
+    put_half(r, at, n & 0xFFFF);
+    put_half(r, at + 2, n >> 16);
 }
 
 /* ---- damage ---- */
@@ -895,6 +902,18 @@ static void properties_of_29(void) { the("document properties")->len = 29; }
 static void counts_of_56(void) { the("counts")->len = 56; /* fourteen counts of 32 bits */ }
 static void counts_of_62(void) { the("counts")->len = 62; /* fifteen, and half a count */ }
 static void count_negative(void) { put_half(the("counts"), 0, 0xFFFF); }
+static void wide_negative(void)
+{ /* the seven counts of faces still make seven */
+    put_word(the("counts"), 4 * 1, (uint32_t)-1);
+    put_word(the("counts"), 4 * 2, 3);
+}
+static void faces_wrap(void)
+{ /* the seven counts of faces make seven, and 2 to the power 32 */
+    put_word(the("counts"), 4 * 1, 0x7FFFFFFF);
+    put_word(the("counts"), 4 * 2, 0x7FFFFFFF);
+    put_word(the("counts"), 4 * 3, 5);
+}
+static void memo_shape_lost(void) { put_word(the("counts"), 4 * 15, 1); }
 static void face_lost(void) { take_away(index_of("face")); }
 
 static void good_water(void) { water(last_week); }
@@ -939,6 +958,8 @@ static const struct sample {
     {"damaged/22-same-id.section", good_water, same_id, 22, "turbidity field", CHLORINE},
     {"damaged/23-not-plain.section", good_water, tab_in_value, 23, "chlorine field", CHLORINE},
     {"water.docinfo", docinfo, NULL, 0, "", 0},
+    {"water-current.docinfo", current_docinfo, NULL, 0, "", 0},
+    {"water-fifteen.docinfo", docinfo_of_15, NULL, 0, "", 0},
     {"damaged/16-counts-lost.docinfo", docinfo, counts_lost, 16, "", 0},
     {"damaged/16-properties-twice.docinfo", docinfo, properties_twice, 16, "second", 0},
     {"damaged/16-counts-at-level-1.docinfo", docinfo, counts_below, 16, "counts", 0},
@@ -947,6 +968,9 @@ static const struct sample {
     {"damaged/17-counts-of-62.docinfo", current_docinfo, counts_of_62, 17, "counts", 0},
     {"damaged/18-count-negative.docinfo", docinfo, count_negative, 18, "counts", 0},
     {"damaged/18-face-lost.docinfo", docinfo, face_lost, 18, "counts", 0},
+    {"damaged/18-wide-count-negative.docinfo", current_docinfo, wide_negative, 18, "counts", 0},
+    {"damaged/18-faces-over-32-bits.docinfo", current_docinfo, faces_wrap, 18, "counts", 0},
+    {"damaged/18-memo-shape-lost.docinfo", current_docinfo, memo_shape_lost, 18, "counts", 0},
 };
 
 static void make(const struct sample *s)
@@ -1062,8 +1086,11 @@ static int map(const char *name)
             print_piece(r->place, 4, "header: tag, level, size");
             if (r->lead == 8)
                 print_piece(r->place + 4, 4, "header: long length");
-            for (int p = 0; p < r->npieces && r->pieces[p].at < r->len; p++)
-                print_piece(r->place + r->lead + r->pieces[p].at, r->pieces[p].len, r->pieces[p].what);
+            for (int p = 0; p < r->npieces && r->pieces[p].at < r->len; p++) {
+                const struct piece *piece = &r->pieces[p];
+                size_t left = r->len - piece->at; /* less than the piece where damage has cut it */
+                print_piece(r->place + r->lead + piece->at, piece->len < left ? piece->len : left, piece->what);
+            }
         }
         return 0;
     }

@@ -5,7 +5,7 @@ use mathlib.Core.Path.{_≡_, refl, sym, ap, _∙_}
 use mathlib.Core.Option.{Option, none, some}
 use mathlib.Core.List.{List}
 use lib.ListN.{length, take, drop}
-use borrow.Author.Tests.{lt-ltb, le-ltb, eq-eqb, ne-eqb}
+use borrow.Author.Tests.{lt-ltb, le-ltb}
 use Rattle.records.specs.Answers.{refusedAt}
 use Rattle.records.specs.Reading.{readAll}
 use Rattle.records.specs.Table.{readAnswer, settled, afterRead}
@@ -18,9 +18,13 @@ use Rattle.records.proofs.AnswerLaws.{judged-accepted}
 use Rattle.records.proofs.HeaderLaws.{length-part}
 use Rattle.records.specs.Parents.{children}
 use Rattle.docinfo.specs.Only.{only, soleOf, locatedAt, InStream}
+use Rattle.docinfo.specs.Widths.{countBytes, formOf}
 use Rattle.docinfo.specs.Counts.{countFault, verdictOf}
-use Rattle.docinfo.specs.DocInfo.{kidsOf, countRefusal, bodiesFault, judged, docinfoFault, docinfoAnswer}
+use Rattle.docinfo.specs.DocInfo.{kidsOf, countRefusal, mappingsFault, bodiesFault, judged, docinfoFault, docinfoAnswer}
 use Rattle.docinfo.specs.declared.seek.Sole.the-variants as O
+use Rattle.docinfo.specs.declared.widths.Width.{Width}
+use Rattle.docinfo.specs.declared.widths.Form.{Form}
+use Rattle.docinfo.specs.declared.widths.Form.the-variants as M
 use Rattle.docinfo.specs.declared.counts.Verdict.{Verdict}
 use Rattle.docinfo.specs.declared.counts.Verdict.the-variants as W
 use Rattle.docinfo.proofs.WalkLaws.{rest}
@@ -46,19 +50,23 @@ module _ (s : List ℕ) (n : ℕ) (p m : Record) (pre : (InStream s p) × (InStr
   bodies-16 h = simp (length-16, lt-ltb (p .len) 30 h)
 
   module _ (h : 30 ≤ p .len) where
-    pub bodies-17 : (m .len ≡ 32 → ⊥) → refusedAt F.DocInfoLength (m .at .0) ≡ answer
+    -- record 17 is judged by the form that its length has
+    judged-by : (f : Form) → formOf (m .len) ≡ f → answer ≡ settled n (mappingsFault (locatedAt s m) f)
     unfolding bodiesFault
-    bodies-17 e = simp (length-16, length-17, le-ltb (p .len) 30 h, ne-eqb (m .len) 32 e)
+    judged-by f e = simp (length-16, length-17, le-ltb (p .len) 30 h, e)
 
-    module _ (e : m .len ≡ 32) where
+    pub bodies-17 : formOf (m .len) ≡ M.Neither → refusedAt F.DocInfoLength (m .at .0) ≡ answer
+    bodies-17 e = sym (judged-by M.Neither e)
+
+    module _ (w : Width) (e : formOf (m .len) ≡ M.Counts w) where
       abbrev faultOf : List ℕ → Option ℕ
-      faultOf body = countFault 2 body (children 1 (rest 1 s (m .next .0)))
+      faultOf body = countFault (countBytes w) body (children 1 (rest 1 s (m .next .0)))
 
       counted : answer ≡ settled n (countRefusal (m .at .0) (faultOf (bodyOf m)))
-      unfolding bodiesFault kidsOf
+      unfolding kidsOf
       counted =
           let next : m .level + 1 ≡ 1 = omega (arith, pre .2) in
-          simp (length-16, length-17, le-ltb (p .len) 30 h, eq-eqb (m .len) 32 e, next)
+          judged-by (M.Counts w) e ∙ simp next
 
       -- the answer to a verdict on the counts
       abbrev told : Verdict → Answer

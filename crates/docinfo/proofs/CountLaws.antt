@@ -4,35 +4,41 @@ use native.Mathlib.Omega.{arith}
 use native.Mathlib.Numerals.{add-one}
 use native.Mathlib.Nat.{zero-add, add-zero, sub-zero, mul-suc}
 use mathlib.Core.Path.{_≡_, refl, sym, ap, _∙_}
-use mathlib.Core.Bool.{cond}
+use mathlib.Core.Bool.{Bool, true, false, not, cond}
 use mathlib.Core.Option.{Option, none, some}
 use mathlib.Core.List.{List, [], _∷_}
 use lib.Dec.{eqb}
 use lib.ListN.{length, getD, take, drop, drop-of-length-le}
 use lib.Seq.{drop-cons}
-use borrow.Author.Tests.{le-leb, lt-leb, eq-eqb, ne-eqb}
-use Rattle.numbers.specs.Little.{little, span, Bytes}
-use Rattle.numbers.proofs.LittleLaws.{bytes-drop, little-small, part-rest}
+use borrow.Author.Tests.{le-leb, lt-leb, lt-ltb, le-ltb}
+use Rattle.numbers.specs.Little.{little, span}
+use Rattle.numbers.proofs.LittleLaws.{part-rest}
 use Rattle.records.specs.Records.{Rec}
 use Rattle.docinfo.specs.declared.counts.Group.{Group}
 use Rattle.docinfo.specs.declared.counts.Verdict.{Verdict}
 use Rattle.docinfo.specs.declared.counts.Verdict.the-variants as W
-use Rattle.docinfo.specs.Counts.{tally, countAt, negative, negativeFrom, sumFrom, groups, groupAt, unmatched, orElse, countFault, verdictOf}
+use Rattle.docinfo.specs.Counts.{tally, countAt, negative, negativeFrom, sumFrom, groups, groupAt, matched, unmatched, orElse, countFault, verdictOf}
 
 -- ---- the bits of a count
 
-module _ (body : List ℕ) (i : ℕ) where
-  pub count-short : length body < 2 * i → (0 ≡ countAt 2 body i) × (0 < 65536)
-  unfolding countAt little
-  count-short h =
-      let l : length body ≤ 2 * i = omega arith in
-      (sym (ap (little 2) (drop-of-length-le body l)), omega arith)
+-- no bytes have no bits
+none-little : (w : ℕ) → little w [] ≡ 0
+unfolding little
+none-little zero = refl
+none-little (suc w) = simp (none-little w)
 
-  pub count-whole : (x : ℕ) → Bytes body → x ≡ little 2 (take (length body - 2 * i) (drop (2 * i) body)) → (x ≡ countAt 2 body i) × (x < 65536)
-  unfolding countAt span
-  count-whole x bs e =
-      let f : x ≡ little 2 (drop (2 * i) body) = rw part-rest at e in
-      (f, omega (arith, little-small 2 (drop (2 * i) body) (bytes-drop (2 * i) body bs)))
+module _ (w : ℕ) (body : List ℕ) (i : ℕ) where
+  pub count-absent : length body ≤ w * i → countAt w body i ≡ 0
+  unfolding countAt
+  count-absent h = ap (little w) (drop-of-length-le body h) ∙ none-little w
+
+  module _ {b : ℕ} (e : b ≡ w) where
+    pub count-short : length body < b * i → (0 ≡ countAt w body i) × (0 < 4294967296)
+    count-short h = let l : length body < w * i = rw (← e) h in (sym (count-absent (omega arith)), omega arith)
+
+    pub count-whole : {x : ℕ} → x ≡ little w (take (length body - b * i) (drop (b * i) body)) → x ≡ countAt w body i
+    unfolding countAt
+    count-whole f = f ∙ rw (part-rest, e) refl
 
 -- ---- negative counts: those from i on of n
 
@@ -120,6 +126,20 @@ pub group-within : (i : ℕ) → groupAt i .first + groupAt i .many ≤ 16
 unfolding groupAt
 group-within i = within-at groups _ i all-within (omega arith)
 
+module _ (w : ℕ) (body : List ℕ) (kids : List Rec) (g : Group) {b : ℕ} (e : b ≡ w) where
+  pub matched-absent : length body < b * (g .first + g .many) → true ≡ matched w body kids g
+  unfolding matched
+  matched-absent h = simp (lt-ltb (length body) (w * (g .first + g .many)) (rw (← e) h))
+
+  pub matched-there : b * (g .first + g .many) ≤ length body → {sum count : ℕ} → sum ≡ sumFrom w body (g .first) (g .many)
+      → count ≡ tally (g .tag) kids → eqb sum count ≡ matched w body kids g
+  unfolding matched
+  matched-there h p q = simp (le-ltb (length body) (w * (g .first + g .many)) (rw (← e) h), p, q)
+
+flipped : (b : Bool) {c : Bool} → not b ≡ c → b ≡ not c
+flipped true e = ap not e
+flipped false e = ap not e
+
 -- where the matching stands: the groups before row i are matched
 pub record Matching (w : ℕ) (body : List ℕ) (kids : List Rec) (i : ℕ) : Type 0 where
   pub inside : i ≤ 10
@@ -130,21 +150,16 @@ module _ {w : ℕ} {body : List ℕ} {kids : List Rec} {i : ℕ} (k : Matching w
   unfolding unmatched
   matching-end h = sym (ap verdictOf (k .left ∙ ap (unmatched w body kids) (groups-end i h)))
 
-  module _ (h : i < 10) {g : Group} (e : g ≡ groupAt i) {sum count : ℕ} (p : sum ≡ sumFrom w body (g .first) (g .many)) (q : count ≡ tally (g .tag) kids) where
-    row-next : unmatched w body kids (drop i groups)
-        ≡ cond (eqb (sumFrom w body (g .first) (g .many)) (tally (g .tag) kids)) (unmatched w body kids (drop (i + 1) groups)) (some (g .first))
+  module _ (h : i < 10) {g : Group} (e : g ≡ groupAt i) {b : Bool} (p : b ≡ matched w body kids g) where
+    row-next : unmatched w body kids (drop i groups) ≡ cond b (unmatched w body kids (drop (i + 1) groups)) (some (g .first))
     unfolding unmatched
-    row-next = rw (group-next i h, ← e) refl
+    row-next = rw (group-next i h, ← e, ← p) refl
 
-    pub matching-here : (sum ≡ count → ⊥) → W.Fault (g .first) ≡ verdictOf (unmatched w body kids groups)
-    matching-here z = simp (k .left, row-next, ne-eqb (sumFrom w body (g .first) (g .many)) (tally (g .tag) kids) (λ r. z (p ∙ r ∙ sym q)))
+    pub matching-here : not b ≡ true → W.Fault (g .first) ≡ verdictOf (unmatched w body kids groups)
+    matching-here z = simp (k .left, row-next, flipped b z)
 
-    pub matching-next : sum ≡ count → Matching w body kids (i + 1)
-    matching-next z =
-        record {
-          inside = omega arith;
-          left = k .left ∙ row-next ∙ simp (eq-eqb (sumFrom w body (g .first) (g .many)) (tally (g .tag) kids) (sym p ∙ z ∙ q));
-        }
+    pub matching-next : not b ≡ false → Matching w body kids (i + 1)
+    matching-next z = record { inside = omega arith; left = k .left ∙ row-next ∙ simp (flipped b z) }
 
 -- ---- both together
 

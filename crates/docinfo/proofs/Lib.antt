@@ -2,6 +2,7 @@ pub mod WalkLaws
 pub mod ChildLaws
 pub mod SeekLaws
 pub mod OnlyLaws
+pub mod WidthLaws
 pub mod CountLaws
 pub mod AnswerLaws
 pub mod SoundLaws

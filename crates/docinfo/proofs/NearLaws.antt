@@ -14,8 +14,11 @@ use Rattle.records.specs.Answers.{place}
 use Rattle.records.specs.declared.fault.Refusal.{Refusal}
 use Rattle.records.proofs.ScanLaws.{length-encode, Near, judged-near}
 use Rattle.docinfo.specs.Only.{Located, tagged, Only, one, wrong, onlyOf, only}
+use Rattle.docinfo.specs.Widths.{countBytes, formOf}
 use Rattle.docinfo.specs.Counts.{countFault}
-use Rattle.docinfo.specs.DocInfo.{kidsOf, countRefusal, bodiesFault, judged, docinfoFault, docinfoAnswer}
+use Rattle.docinfo.specs.declared.widths.Form.{Form}
+use Rattle.docinfo.specs.declared.widths.Form.the-variants as M
+use Rattle.docinfo.specs.DocInfo.{kidsOf, countRefusal, mappingsFault, bodiesFault, judged, docinfoFault, docinfoAnswer}
 
 -- each stands at `end` or before it
 abbrev AllNear : ℕ → List Located → Type 0
@@ -60,13 +63,16 @@ count-near : (end p : ℕ) (o : Option ℕ) → p ≤ end → Near end (countRef
 count-near end p none h = tt
 count-near end p (some i) h = h
 
+mappings-near : (end : ℕ) (m : Located) (f : Form) → m .at ≤ end → Near end (mappingsFault m f)
+mappings-near end m (M.Counts w) h = count-near end (m .at) (countFault (countBytes w) (m .it .body) (kidsOf m)) h
+mappings-near end m M.Neither h = h
+
 both-near : (end : ℕ) (x y : Only) → OnlyNear end x → OnlyNear end y → Near end (judged x y)
 unfolding judged bodiesFault
 both-near end (wrong a) y h k = h
 both-near end (one p) (wrong b) h k = k
 both-near end (one p) (one m) h k =
-    near-cond end (ltb (length (p .it .body)) 30) _ _ h
-    (near-cond end (eqb (length (m .it .body)) 32) _ _ (count-near end (m .at) (countFault 2 (m .it .body) (kidsOf m)) k) k)
+    near-cond end (ltb (length (p .it .body)) 30) _ _ h (mappings-near end m (formOf (length (m .it .body))) k)
 
 fault-near : (rs : List Rec) → Near (length (encode rs)) (docinfoFault rs)
 unfolding docinfoFault only

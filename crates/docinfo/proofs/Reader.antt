@@ -1,15 +1,19 @@
--- The reader's statement (document 01, 'DocInfo'): DocInfo is accepted, given room, exactly when it is a stream of records, one of them 16
--- and one 17, both at level 0 and long enough, and the counts of 17 are those of its children. Assumes nothing.
-use Prim.Native.Nat.{ℕ, _+_, _≤_}
+-- The reader's statement (document 01, 'DocInfo'; document 02, A4): DocInfo is accepted, given room, exactly when it is a stream of records,
+-- one of them 16 and one 17, both at level 0, 16 long enough and 17 in one of its two forms, and the counts of 17 are those of its children.
+-- Assumes nothing.
+use Prim.Native.Nat.{ℕ, _+_, _%_, _≤_}
 use native.Mathlib.Omega.{arith}
+use native.Mathlib.Decide.{decLe}
+use native.Mathlib.Nat.{lt-of-not-le}
 use mathlib.Core.Path.{_≡_, refl, ap, _∙_, subst}
 use mathlib.Core.Bool.{Bool, true, false, cond}
 use mathlib.Core.Option.{Option, none, some}
+use mathlib.Core.Logic.{inl, inr}
 use mathlib.Core.List.{List, _∷_}
-use lib.Dec.{ltb, eqb}
+use lib.Dec.{ltb, lit<}
 use lib.ListN.{length}
-use borrow.Author.Tests.{ltb-false, eqb-true, le-ltb, eq-eqb}
-use Rattle.numbers.specs.Little.{Bytes}
+use borrow.Author.Tests.{ltb-false, le-ltb}
+use Rattle.numbers.specs.Little.{span, Bytes}
 use Rattle.records.specs.Records.{Rec, Lawful, encode}
 use Rattle.records.specs.Parents.{WithParent, children}
 use Rattle.records.specs.Reading.{Read, readAll}
@@ -20,10 +24,15 @@ use Rattle.records.proofs.ParentLaws.{children-exactly, lawful-behind}
 use Rattle.records.proofs.AnswerLaws.{judged-accepted}
 use Rattle.records.proofs.Reader.{IsStream, accepted-stream, stream-records, stream-accepted}
 use Rattle.docinfo.specs.Only.{Located, tagged, Only, one, wrong, onlyOf, only}
-use Rattle.docinfo.specs.DocInfo.{kidsOf, countRefusal, bodiesFault, judged, docinfoFault, docinfoAnswer}
-use Rattle.docinfo.specs.SoundDocInfo.{Single, CountsHold, SoundDocInfo}
+use Rattle.docinfo.specs.Widths.{countBytes, formOf}
+use Rattle.docinfo.specs.declared.widths.Width.the-variants as N
+use Rattle.docinfo.specs.declared.widths.Form.{Form}
+use Rattle.docinfo.specs.declared.widths.Form.the-variants as M
+use Rattle.docinfo.specs.DocInfo.{kidsOf, countRefusal, mappingsFault, bodiesFault, judged, docinfoFault, docinfoAnswer}
+use Rattle.docinfo.specs.SoundDocInfo.{Single, MappingsHold, of-16-bits, of-32-bits, SoundDocInfo}
 use Rattle.docinfo.proofs.OnlyLaws.{onlyOf-is, onlyOf-one}
-use Rattle.docinfo.proofs.SoundLaws.{Split, tagged-split, split-tagged, counts-hold, counts-fine}
+use Rattle.docinfo.proofs.WidthLaws.{form-16, form-32, Formed, formed}
+use Rattle.docinfo.proofs.SoundLaws.{Split, tagged-split, split-tagged, Counted, counts-hold, counts-fine}
 
 -- ---- the only record
 
@@ -68,42 +77,63 @@ children-of-17 rs before l m =
 
 pub record BodiesHold (p m : Located) : Type 0 where
   pub properties-long : 30 ≤ length (p .it .body)
-  pub mappings-long : length (m .it .body) ≡ 32
-  pub counts : CountsHold (m .it .body) (children 1 (m .behind))
+  pub mappings-hold : MappingsHold (m .it .body) (children 1 (m .behind))
 
--- a test that is passed, and a test that is met
+-- a test that is passed
 passed : (b : Bool) (r : Refusal) (y : Option Refusal) → cond b (some r) y ≡ none → (b ≡ false) × (y ≡ none)
 passed true r y e = absurd (let z : _≡_ {A = ℕ} 0 1 = cc in omega arith)
 passed false r y e = (refl, e)
 
-met : (b : Bool) (x : Option Refusal) (r : Refusal) → cond b x (some r) ≡ none → (b ≡ true) × (x ≡ none)
-met true x r e = (refl, e)
-met false x r e = absurd (let z : _≡_ {A = ℕ} 0 1 = cc in omega arith)
+-- either form has fifteen counts, and the sixteenth or nothing behind them
+module _ (body : List ℕ) where
+  counted-16 : length body ≡ 32 → Counted 2 32768 body
+  unfolding span
+  counted-16 l = record { sign-is = refl; signed = lit< tt; fifteen = omega (arith, l); sixteenth = inl (omega (arith, l)) }
 
-module _ (p m : Located) where
+  counted-32 : 60 ≤ length body → length body % 4 ≡ 0 → Counted 4 2147483648 body
+  unfolding span
+  counted-32 l e =
+      record {
+        sign-is = refl;
+        signed = lit< tt;
+        fifteen = l;
+        sixteenth =
+            elim (decLe 64 (length body)) [
+              | yes g ↦ inl g
+              | no g ↦ inr (omega (arith, l, e, lt-of-not-le g))
+            ];
+      }
+
+module _ (m : Located) where
+  abbrev kids : List Rec
+  kids = children 1 (m .behind)
+
   counts-none : (o : Option ℕ) → countRefusal (m .at) o ≡ none → o ≡ none
   counts-none none e = refl
   counts-none (some i) e = absurd (let z : _≡_ {A = ℕ} 0 1 = cc in omega arith)
 
+  mappings-hold : (f : Form) → Formed (length (m .it .body)) f → mappingsFault m f ≡ none → MappingsHold (m .it .body) kids
+  unfolding kidsOf countBytes
+  mappings-hold M.Neither k e = absurd (let z : _≡_ {A = ℕ} 0 1 = cc in omega arith)
+  mappings-hold (M.Counts N.Bits16) k e = of-16-bits k (counts-hold kids (counted-16 (m .it .body) k) (counts-none _ e))
+  mappings-hold (M.Counts N.Bits32) k e = of-32-bits (k .0) (k .1) (counts-hold kids (counted-32 (m .it .body) (k .0) (k .1)) (counts-none _ e))
+
+  mappings-fine : MappingsHold (m .it .body) kids → mappingsFault m (formOf (length (m .it .body))) ≡ none
+  unfolding kidsOf countBytes
+  mappings-fine (of-16-bits l h) = simp (form-16 (length (m .it .body)) l, counts-fine kids (counted-16 (m .it .body) l) h)
+  mappings-fine (of-32-bits l e h) = simp (form-32 (length (m .it .body)) l e, counts-fine kids (counted-32 (m .it .body) l e) h)
+
+module _ (p m : Located) where
   bodies-hold : bodiesFault p m ≡ none → BodiesHold p m
-  unfolding bodiesFault kidsOf
+  unfolding bodiesFault
   bodies-hold e =
       let long = passed (ltb (length (p .it .body)) 30) _ _ e in
-      let counted = met (eqb (length (m .it .body)) 32) _ _ (long .1) in
-      record {
-        properties-long = ltb-false _ _ (long .0);
-        mappings-long = eqb-true _ _ (counted .0);
-        counts = counts-hold _ _ (counts-none _ (counted .1));
-      }
+      let n = length (m .it .body) in
+      record { properties-long = ltb-false _ _ (long .0); mappings-hold = mappings-hold m (formOf n) (formed n) (long .1) }
 
   bodies-fine : BodiesHold p m → bodiesFault p m ≡ none
-  unfolding bodiesFault kidsOf
-  bodies-fine h =
-      simp (
-        le-ltb (length (p .it .body)) 30 (h .properties-long),
-        eq-eqb (length (m .it .body)) 32 (h .mappings-long),
-        counts-fine (m .it .body) (children 1 (m .behind)) (h .counts),
-      )
+  unfolding bodiesFault
+  bodies-fine h = simp (le-ltb (length (p .it .body)) 30 (h .properties-long)) (mappings-fine m (h .mappings-hold))
 
 -- ---- DocInfo's records
 
@@ -120,8 +150,7 @@ module _ (rs : List Rec) where
         properties = singleOf 16 rs p (i .0) (i .1);
         mappings = singleOf 17 rs m (j .0) (j .1);
         properties-long = h .properties-long;
-        mappings-long = h .mappings-long;
-        counts = h .counts;
+        mappings-hold = h .mappings-hold;
       }
 
   -- no fault is found exactly where DocInfo is sound
@@ -133,7 +162,7 @@ module _ (rs : List Rec) where
   unfolding docinfoFault judged
   sound-faultless k =
       simp (split-only 16 rs (k .properties), split-only 17 rs (k .mappings))
-      (bodies-fine _ _ (record { properties-long = k .properties-long; mappings-long = k .mappings-long; counts = k .counts }))
+      (bodies-fine _ _ (record { properties-long = k .properties-long; mappings-hold = k .mappings-hold }))
 
 -- ---- the stream
 

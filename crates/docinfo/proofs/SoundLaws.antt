@@ -2,23 +2,25 @@
 use Prim.Native.Nat.{ℕ, zero, suc, _+_, _*_, _≤_, _<_}
 use native.Mathlib.Omega.{arith}
 use native.Mathlib.Decide.{decLe}
-use native.Mathlib.Nat.{lt-of-not-le, add-zero}
+use native.Mathlib.Nat.{le-trans, lt-of-not-le, add-zero, mul-le-mul-left}
 use mathlib.Core.Path.{_≡_, refl, sym, ap, _∙_}
 use mathlib.Core.Bool.{Bool, true, false, cond}
 use mathlib.Core.Option.{Option, none, some}
+use mathlib.Core.Logic.{_⊎_, inl, inr}
 use mathlib.Core.List.{List, [], _∷_, _++_}
-use lib.Dec.{leb, eqb, lit<}
+use lib.Dec.{leb, ltb, eqb, lit<}
 use lib.ListN.{length}
-use borrow.Author.Tests.{leb-false, eqb-true, eqb-false, lt-leb, eq-eqb}
+use borrow.Author.Tests.{leb-false, ltb-false, eqb-true, eqb-false, lt-leb, le-ltb, eq-eqb}
 use Rattle.numbers.specs.Little.{span}
 use Rattle.records.specs.Records.{Rec, encode, size}
 use Rattle.records.specs.Parents.{Lacks}
 use Rattle.records.proofs.ScanLaws.{length-encode}
 use Rattle.docinfo.specs.Only.{Located, tagged}
-use Rattle.docinfo.specs.Counts.{tally, countAt, negative, negativeFrom, sumFrom, groups, unmatched, orElse, countFault}
-use Rattle.docinfo.specs.SoundDocInfo.{CountsHold}
+use Rattle.docinfo.specs.Counts.{tally, countAt, negative, negativeFrom, sumFrom, groups, matched, unmatched, orElse, countFault}
+use Rattle.docinfo.specs.SoundDocInfo.{There, CountsHold}
 use Rattle.docinfo.specs.declared.counts.Group.{Group}
 use Rattle.docinfo.proofs.SeekLaws.{tagged-here, tagged-other, tagged-none}
+use Rattle.docinfo.proofs.CountLaws.{count-absent}
 
 -- ---- the only record with a tag
 
@@ -105,55 +107,96 @@ module _ (w : ℕ) (body : List ℕ) where
       (none-negative (i + 1) k (λ j l m. h j (omega arith) (omega arith)))
 
 module _ (w : ℕ) (body : List ℕ) (kids : List Rec) where
-  -- every group is matched
+  -- a group that is all there is matched
+  abbrev pub Agrees : Group → Type 0
+  Agrees g = w * (g .first + g .many) ≤ length body → sumFrom w body (g .first) (g .many) ≡ tally (g .tag) kids
+
+  matched-agrees : (g : Group) → matched w body kids g ≡ true → Agrees g
+  unfolding matched
+  matched-agrees g e l = eqb-true _ _ (simp (le-ltb (length body) (w * (g .first + g .many)) l) at e)
+
+  agrees-matched : (g : Group) → Agrees g → matched w body kids g ≡ true
+  unfolding matched
+  agrees-matched g h = by-test (ltb (length body) (w * (g .first + g .many))) refl
+    where
+      by-test : (b : Bool) → ltb (length body) (w * (g .first + g .many)) ≡ b
+          → cond b true (eqb (sumFrom w body (g .first) (g .many)) (tally (g .tag) kids)) ≡ true
+      by-test true q = refl
+      by-test false q = eq-eqb _ _ (h (ltb-false _ _ q))
+
+  -- every group is
   abbrev pub Matched : List Group → Type 0
   Matched [] = Unit {0}
-  Matched (g ∷ gs) = (sumFrom w body (g .first) (g .many) ≡ tally (g .tag) kids) × Matched gs
+  Matched (g ∷ gs) = Agrees g × Matched gs
 
   pub unmatched-none : (gs : List Group) → unmatched w body kids gs ≡ none → Matched gs
   unfolding unmatched
   unmatched-none [] e = tt
-  unmatched-none (g ∷ gs) e = by-test (eqb (sumFrom w body (g .first) (g .many)) (tally (g .tag) kids)) refl e (unmatched-none gs)
+  unmatched-none (g ∷ gs) e = by-test (matched w body kids g) refl e (unmatched-none gs)
     where
-      by-test : (b : Bool) → eqb (sumFrom w body (g .first) (g .many)) (tally (g .tag) kids) ≡ b
-          → cond b (unmatched w body kids gs) (some (g .first)) ≡ none → (unmatched w body kids gs ≡ none → Matched gs) → Matched (g ∷ gs)
-      by-test true q z further = (eqb-true _ _ q, further z)
+      by-test : (b : Bool) → matched w body kids g ≡ b → cond b (unmatched w body kids gs) (some (g .first)) ≡ none
+          → (unmatched w body kids gs ≡ none → Matched gs) → Matched (g ∷ gs)
+      by-test true q z further = (matched-agrees g q, further z)
       by-test false q z further = absurd (let z : _≡_ {A = ℕ} 0 1 = cc in omega arith)
 
   pub none-unmatched : (gs : List Group) → Matched gs → unmatched w body kids gs ≡ none
   unfolding unmatched
   none-unmatched [] m = refl
-  none-unmatched (g ∷ gs) m = simp (eq-eqb (sumFrom w body (g .first) (g .many)) (tally (g .tag) kids) (m .0)) (none-unmatched gs (m .1))
+  none-unmatched (g ∷ gs) m = simp (agrees-matched g (m .0)) (none-unmatched gs (m .1))
 
--- ---- the table says what document 01 says, at sixteen counts of two bytes
+-- ---- the table says what the documents say, over the width
 
-module _ (body : List ℕ) (kids : List Rec) where
-  in-order : Matched 2 body kids groups → (k : ℕ) → k < 7 → countAt 2 body (8 + k) ≡ tally (20 + k) kids
+-- `sign` is the sign bit of w bytes, and the body has fifteen counts and no more, or sixteen at least
+pub record Counted (w sign : ℕ) (body : List ℕ) : Type 0 where
+  pub sign-is : span w ≡ 2 * sign
+  pub signed : 0 < sign
+  pub fifteen : w * 15 ≤ length body
+  pub sixteenth : (w * 16 ≤ length body) ⊎ (length body ≤ w * 15)
+
+module _ {w sign : ℕ} {body : List ℕ} (kids : List Rec) (k : Counted w sign body) where
+  in-order : Matched w body kids groups → (j : ℕ) → j < 7 → countAt w body (8 + j) ≡ tally (20 + j) kids
   unfolding groups sumFrom
-  in-order m zero h = omega (arith, m .1 .1 .0)
-  in-order m (suc zero) h = omega (arith, m .1 .1 .1 .0)
-  in-order m (suc (suc zero)) h = omega (arith, m .1 .1 .1 .1 .0)
-  in-order m (suc (suc (suc zero))) h = omega (arith, m .1 .1 .1 .1 .1 .0)
-  in-order m (suc (suc (suc (suc zero)))) h = omega (arith, m .1 .1 .1 .1 .1 .1 .0)
-  in-order m (suc (suc (suc (suc (suc zero))))) h = omega (arith, m .1 .1 .1 .1 .1 .1 .1 .0)
-  in-order m (suc (suc (suc (suc (suc (suc zero)))))) h = omega (arith, m .1 .1 .1 .1 .1 .1 .1 .1 .0)
-  in-order m (suc (suc (suc (suc (suc (suc (suc k))))))) h = absurd (omega arith)
+  in-order m zero h = omega (arith, m .1 .1 .0 (omega (arith, k .fifteen)))
+  in-order m (suc zero) h = omega (arith, m .1 .1 .1 .0 (omega (arith, k .fifteen)))
+  in-order m (suc (suc zero)) h = omega (arith, m .1 .1 .1 .1 .0 (omega (arith, k .fifteen)))
+  in-order m (suc (suc (suc zero))) h = omega (arith, m .1 .1 .1 .1 .1 .0 (omega (arith, k .fifteen)))
+  in-order m (suc (suc (suc (suc zero)))) h = omega (arith, m .1 .1 .1 .1 .1 .1 .0 (omega (arith, k .fifteen)))
+  in-order m (suc (suc (suc (suc (suc zero))))) h = omega (arith, m .1 .1 .1 .1 .1 .1 .1 .0 (omega (arith, k .fifteen)))
+  in-order m (suc (suc (suc (suc (suc (suc zero)))))) h = omega (arith, m .1 .1 .1 .1 .1 .1 .1 .1 .0 (omega (arith, k .fifteen)))
+  in-order m (suc (suc (suc (suc (suc (suc (suc j))))))) h = absurd (omega arith)
 
-  in-words : Matched 2 body kids groups → ((i : ℕ) → i < 16 → countAt 2 body i < 32768) → CountsHold body kids
+  in-words : Matched w body kids groups → ((i : ℕ) → i < 16 → There w body i → countAt w body i < sign) → CountsHold w sign body kids
   unfolding groups sumFrom
   in-words m n =
       record {
         none-negative = n;
-        count-0 = omega (arith, m .0);
-        counts-1-to-7 = omega (arith, m .1 .0);
+        count-0 = omega (arith, m .0 (omega (arith, k .fifteen)));
+        counts-1-to-7 = omega (arith, m .1 .0 (omega (arith, k .fifteen)));
         counts-8-to-14 = in-order m;
-        count-15 = omega (arith, m .1 .1 .1 .1 .1 .1 .1 .1 .1 .0);
+        count-15 = λ l. omega (arith, m .1 .1 .1 .1 .1 .1 .1 .1 .1 .0 l);
       }
 
-  in-table : CountsHold body kids → Matched 2 body kids groups
+  in-table : CountsHold w sign body kids → Matched w body kids groups
   unfolding groups sumFrom
   in-table h =
-      (omega (arith, h .count-0), (omega (arith, h .counts-1-to-7), (omega (arith, h .counts-8-to-14 0 (lit< tt)), (omega (arith, h .counts-8-to-14 1 (lit< tt)), (omega (arith, h .counts-8-to-14 2 (lit< tt)), (omega (arith, h .counts-8-to-14 3 (lit< tt)), (omega (arith, h .counts-8-to-14 4 (lit< tt)), (omega (arith, h .counts-8-to-14 5 (lit< tt)), (omega (arith, h .counts-8-to-14 6 (lit< tt)), (omega (arith, h .count-15), tt))))))))))
+      (λ l. omega (arith, h .count-0), (λ l. omega (arith, h .counts-1-to-7), (λ l. omega (arith, h .counts-8-to-14 0 (lit< tt)), (λ l. omega (arith, h .counts-8-to-14 1 (lit< tt)), (λ l. omega (arith, h .counts-8-to-14 2 (lit< tt)), (λ l. omega (arith, h .counts-8-to-14 3 (lit< tt)), (λ l. omega (arith, h .counts-8-to-14 4 (lit< tt)), (λ l. omega (arith, h .counts-8-to-14 5 (lit< tt)), (λ l. omega (arith, h .counts-8-to-14 6 (lit< tt)), (λ l. omega (arith, h .count-15 l), tt))))))))))
+
+  -- a count that is not there is 0, and so not negative
+  last-low : ((i : ℕ) → i < 16 → There w body i → countAt w body i < sign) → 2 * countAt w body 15 < span w
+  last-low h = by (k .sixteenth)
+    where
+      by : (w * 16 ≤ length body) ⊎ (length body ≤ w * 15) → 2 * countAt w body 15 < span w
+      by (inl l) = omega (arith, h 15 (lit< tt) l, k .sign-is)
+      by (inr l) = omega (arith, count-absent w body 15 l, k .sign-is, k .signed)
+
+  each-low : ((i : ℕ) → i < 16 → There w body i → countAt w body i < sign) → (j : ℕ) → j < 16 → 2 * countAt w body j < span w
+  each-low h j l =
+      elim (decLe 15 j) [
+        | yes g ↦ let same : j ≡ 15 = omega arith in rw same (last-low h)
+        | no g ↦
+            let lower : j + 1 ≤ 15 = omega (arith, lt-of-not-le g) in
+            omega (arith, h j l (le-trans (mul-le-mul-left w lower) (k .fifteen)), k .sign-is)
+      ]
 
   or-none : (x y : Option ℕ) → orElse x y ≡ none → (x ≡ none) × (y ≡ none)
   unfolding orElse
@@ -161,14 +204,14 @@ module _ (body : List ℕ) (kids : List Rec) where
   or-none (some i) y e = absurd (let z : _≡_ {A = ℕ} 0 1 = cc in omega arith)
 
   -- the counts hold exactly where none is at fault
-  pub counts-hold : countFault 2 body kids ≡ none → CountsHold body kids
-  unfolding countFault span
+  pub counts-hold : countFault w body kids ≡ none → CountsHold w sign body kids
+  unfolding countFault
   counts-hold e =
-      let k = or-none (negativeFrom 2 body 0 16) (unmatched 2 body kids groups) e in
-      let low : (i : ℕ) → i < 16 → countAt 2 body i < 32768 = λ i h. omega (arith, negative-none 2 body 0 16 (k .0) i (omega arith) (omega arith)) in
-      in-words (unmatched-none 2 body kids groups (k .1)) low
+      let f = or-none (negativeFrom w body 0 16) (unmatched w body kids groups) e in
+      in-words (unmatched-none w body kids groups (f .1))
+      (λ i h l. omega (arith, negative-none w body 0 16 (f .0) i (omega arith) (omega arith), k .sign-is))
 
-  pub counts-fine : CountsHold body kids → countFault 2 body kids ≡ none
-  unfolding countFault span orElse
+  pub counts-fine : CountsHold w sign body kids → countFault w body kids ≡ none
+  unfolding countFault orElse
   counts-fine h =
-      simp (none-negative 2 body 0 16 (λ j l m. omega (arith, h .none-negative j (omega arith)))) (none-unmatched 2 body kids groups (in-table h))
+      simp (none-negative w body 0 16 (λ j l m. each-low (h .none-negative) j (omega arith))) (none-unmatched w body kids groups (in-table h))

@@ -1,10 +1,10 @@
--- The counts of record 17 and what they are matched with (document 01, 'DocInfo', tables 10 and 11), over the width of a count.
+-- The counts of record 17 and what they are matched with (document 01, 'DocInfo', tables 10 and 11; document 02, A4), over the width of a count.
 use Prim.Native.Nat.{ℕ, zero, suc, _+_, _*_}
 use mathlib.Core.Bool.{Bool, true, false, cond}
 use mathlib.Core.Option.{Option, none, some}
 use mathlib.Core.List.{List, [], _∷_}
-use lib.Dec.{leb, eqb}
-use lib.ListN.{getD, drop}
+use lib.Dec.{leb, ltb, eqb}
+use lib.ListN.{length, getD, drop}
 use Rattle.numbers.specs.Little.{little, span}
 use Rattle.records.specs.Records.{Rec}
 use Rattle.docinfo.specs.declared.counts.Group.{Group}
@@ -29,7 +29,7 @@ countAt w body i = little w (drop (w * i) body)
 unfoldable pub negative : ℕ → ℕ → Bool
 negative w x = leb (span w) (2 * x)
 
--- the first negative count from i on, of k
+-- the first negative count from i on, of k; one that is not there has no bits, and is not negative
 unfoldable pub negativeFrom : ℕ → List ℕ → ℕ → ℕ → Option ℕ
 negativeFrom w body i zero = none
 negativeFrom w body i (suc k) = cond (negative w (countAt w body i)) (some i) (negativeFrom w body (i + 1) k)
@@ -39,7 +39,7 @@ unfoldable pub sumFrom : ℕ → List ℕ → ℕ → ℕ → ℕ
 sumFrom w body i zero = 0
 sumFrom w body i (suc k) = countAt w body i + sumFrom w body (i + 1) k
 
--- how many counts record 17 has
+-- how many counts of record 17 are asked; later ones are ignored
 abbrev pub countsIn : ℕ
 countsIn = 16
 
@@ -57,11 +57,15 @@ groups =
 unfoldable pub groupAt : ℕ → Group
 groupAt i = getD groups i (group 0 0 0)
 
+-- a group's counts sum to the number of children with its tag; where the body ends before they do, nothing is asked
+unfoldable pub matched : ℕ → List ℕ → List Rec → Group → Bool
+matched w body kids g =
+    cond (ltb (length body) (w * (g .first + g .many))) true (eqb (sumFrom w body (g .first) (g .many)) (tally (g .tag) kids))
+
 -- the first count of the first group that is not matched
 unfoldable pub unmatched : ℕ → List ℕ → List Rec → List Group → Option ℕ
 unmatched w body kids [] = none
-unmatched w body kids (g ∷ gs) =
-    cond (eqb (sumFrom w body (g .first) (g .many)) (tally (g .tag) kids)) (unmatched w body kids gs) (some (g .first))
+unmatched w body kids (g ∷ gs) = cond (matched w body kids g) (unmatched w body kids gs) (some (g .first))
 
 -- one finding, and else the other
 unfoldable pub orElse : Option ℕ → Option ℕ → Option ℕ

@@ -1,9 +1,9 @@
--- What the DocInfo read answers (document 01, 'DocInfo', numbers 16 to 18 and 'Order').
+-- What the DocInfo read answers (document 01, 'DocInfo', numbers 16 to 18 and 'Order'; document 02, A4).
 use Prim.Native.Nat.{ℕ}
 use mathlib.Core.Bool.{cond}
 use mathlib.Core.Option.{Option, none, some}
 use mathlib.Core.List.{List}
-use lib.Dec.{ltb, eqb}
+use lib.Dec.{ltb}
 use lib.ListN.{length}
 use Rattle.records.specs.Records.{Rec}
 use Rattle.records.specs.Parents.{children}
@@ -14,7 +14,10 @@ use Rattle.records.specs.declared.fault.Fault.the-variants as F
 use Rattle.records.specs.declared.fault.Refusal.{Refusal}
 use Rattle.records.specs.declared.fault.Answer.{Answer}
 use Rattle.docinfo.specs.Only.{Located, Only, one, wrong, only}
+use Rattle.docinfo.specs.Widths.{countBytes, formOf}
 use Rattle.docinfo.specs.Counts.{countFault}
+use Rattle.docinfo.specs.declared.widths.Form.{Form}
+use Rattle.docinfo.specs.declared.widths.Form.the-variants as M
 
 abbrev pub faultAt : Fault → ℕ → Option Refusal
 faultAt f p = some (record { fault = f; place = record { 0 = p } })
@@ -28,12 +31,15 @@ abbrev pub countRefusal : ℕ → Option ℕ → Option Refusal
 countRefusal p none = none
 countRefusal p (some i) = faultAt F.CountUnmatched p
 
--- 17 for record 16, 17 for record 17, 18: record 16 has 30 bytes or more, record 17 sixteen counts of two bytes
+-- 17 for record 17, where its length holds no counts, and 18
+abbrev pub mappingsFault : Located → Form → Option Refusal
+mappingsFault m M.Neither = faultAt F.DocInfoLength (m .at)
+mappingsFault m (M.Counts w) = countRefusal (m .at) (countFault (countBytes w) (m .it .body) (kidsOf m))
+
+-- 17 for record 16, which has 30 bytes or more, and then record 17
 unfoldable pub bodiesFault : Located → Located → Option Refusal
 bodiesFault p m =
-    cond (ltb (length (p .it .body)) 30) (faultAt F.DocInfoLength (p .at))
-    (cond (eqb (length (m .it .body)) 32) (countRefusal (m .at) (countFault 2 (m .it .body) (kidsOf m)))
-    (faultAt F.DocInfoLength (m .at)))
+    cond (ltb (length (p .it .body)) 30) (faultAt F.DocInfoLength (p .at)) (mappingsFault m (formOf (length (m .it .body))))
 
 -- 16 for record 16, 16 for record 17, and then their bodies
 unfoldable pub judged : Only → Only → Option Refusal

@@ -1,4 +1,5 @@
 pub mod Only
+pub mod Widths
 pub mod Counts
 pub mod DocInfo
 pub mod SoundDocInfo

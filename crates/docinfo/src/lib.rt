@@ -3,6 +3,7 @@ mod children;
 mod counts;
 mod read;
 mod seek;
+mod widths;
 
 pub use children::count_children;
 pub use counts::Group;
@@ -12,3 +13,5 @@ pub use read::read_docinfo;
 pub use seek::Sole;
 pub use seek::Sought;
 pub use seek::only;
+pub use widths::Form;
+pub use widths::Width;

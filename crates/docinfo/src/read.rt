@@ -3,6 +3,8 @@ use crate::counts::Verdict;
 use crate::counts::judge_counts;
 use crate::seek::Sole;
 use crate::seek::only;
+use crate::widths::Form;
+use crate::widths::form_of;
 use numbers::part;
 use records::Answer;
 use records::Fault;
@@ -23,11 +25,11 @@ fn judge_bodies(s: &[u8], n: usize, properties: Record, mappings: Record) -> Ans
     if properties.len < 30 {
         return refused(Fault::DocInfoLength, properties.at);
     }
-    if mappings.len != 32 {
+    let Form::Counts(width) = form_of(mappings.len) else {
         return refused(Fault::DocInfoLength, mappings.at);
-    }
+    };
     let body = mappings.body;
-    match judge_counts(s, part(s, body.0, mappings.len), mappings.next) {
+    match judge_counts(s, part(s, body.0, mappings.len), width, mappings.next) {
         Verdict::Sound => Answer::Accepted(n),
         Verdict::Fault(_) => refused(Fault::CountUnmatched, mappings.at),
     }

@@ -1,4 +1,4 @@
-//! Document 01's examples: the pairs at each edge and the lister's input.
+//! Document 01's examples: the pairs at each edge and the lister's input; and of document 02 the counts' two widths.
 
 use oracle::records::header_of;
 use oracle::{answer, check, field_text, fill, list, pack, read, read_docinfo, read_section};
@@ -254,32 +254,96 @@ fn fill_numbers() {
     assert_eq!(try_fill(&open, 7, &[], 4096), refused(23, open.len() - 19));
 }
 
+/// Record 16, record 17 with the body, then a child 19 with one below it and a child 92.
+fn docinfo_with(counts: &[u8]) -> Vec<u8> {
+    let children = [(19, 1), (19, 2), (92, 1)].map(|(tag, level)| record(tag, level, &[]));
+    let records = [record(16, 0, &[0; 30]), record(17, 0, counts)];
+    [records.concat(), children.concat()].concat()
+}
+
+/// The right sixteen counts of these children.
+const RIGHT: [i64; 16] = [0, 0, 0, 1, 0, 0, 0, 0, 0, 0, 0, 0, 0, 0, 0, 1];
+
+/// The counts in so many bytes each.
+fn counts(width: usize, counts: &[i64]) -> Vec<u8> {
+    let counts = counts.iter();
+    counts
+        .flat_map(|count| count.to_le_bytes()[..width].to_vec())
+        .collect()
+}
+
+/// What DocInfo read says where the right counts are changed, in so many bytes.
+fn changed(width: usize, length: usize, changes: &[(usize, i64)]) -> Result<usize, Refusal> {
+    let mut values = [RIGHT.to_vec(), vec![0; 16]].concat();
+    for &(nth, value) in changes {
+        values[nth] = value;
+    }
+    let body = &counts(width, &values)[..length];
+    read_docinfo(&docinfo_with(body), 5).map(|rows| rows.len())
+}
+
 #[test]
 fn docinfo() {
-    let mut counts = [0u16; 16];
-    counts[3] = 1;
-    counts[15] = 1;
-    let stream = |counts: &[u16]| {
-        let mut stream = record(16, 0, &[0; 30]);
-        stream.extend(record(17, 0, &halves(counts)));
-        stream.extend(record(19, 1, &[]));
-        stream.extend(record(19, 2, &[]));
-        stream.extend(record(92, 1, &[]));
-        stream
-    };
-    assert_eq!(
-        read_docinfo(&stream(&counts), 5).map(|rows| rows.len()),
-        Ok(5)
-    );
-    assert_eq!(read_docinfo(&stream(&counts), 4), refused(7, 34 + 36 + 8));
-    counts[4] = 1;
-    assert_eq!(read_docinfo(&stream(&counts), 5), refused(18, 34));
-    counts[4] = 0xFFFF;
-    counts[3] = 2;
-    assert_eq!(read_docinfo(&stream(&counts), 5), refused(18, 34));
+    let stream = docinfo_with(&counts(2, &RIGHT));
+    assert_eq!(read_docinfo(&stream, 5).map(|rows| rows.len()), Ok(5));
+    assert_eq!(read_docinfo(&stream, 4), refused(7, 34 + 36 + 8));
     assert_eq!(read_docinfo(&record(17, 0, &[]), 5), refused(16, 0));
     let swapped = [record(17, 0, &[0; 32]), record(16, 0, &[0; 29])].concat();
     assert_eq!(read_docinfo(&swapped, 5), refused(17, 36));
+}
+
+#[test]
+fn lengths_of_the_counts() {
+    for length in 28..=80 {
+        let asked = match length {
+            60 | 64 | 68 | 72 | 76 | 80 => Ok(5),
+            // eight counts of 32 bits are not sixteen of 16
+            32 => refused(18, 34),
+            _ => refused(17, 34),
+        };
+        assert_eq!(changed(4, length, &[]), asked, "{length}");
+    }
+    assert_eq!(changed(2, 32, &[]), Ok(5));
+    // sixteen counts of 16 bits are not those of 32
+    assert_eq!(changed(2, 64, &[]), refused(18, 34));
+    let long = |length| read_docinfo(&docinfo_with(&vec![0; length]), 5);
+    assert_eq!(long(4096), refused(18, 34));
+    assert_eq!(long(4097), refused(17, 34));
+}
+
+#[test]
+fn one_rule_over_the_width() {
+    for (width, length, lowest) in [(2, 32, -32_768), (4, 64, -(1 << 31)), (4, 72, -(1 << 31))] {
+        let say = |changes: &[(usize, i64)]| changed(width, length, changes);
+        for nth in 0..16 {
+            assert_eq!(say(&[(nth, RIGHT[nth] + 1)]), refused(18, 34), "{nth}");
+            assert_eq!(say(&[(nth, lowest)]), refused(18, 34), "{nth}");
+        }
+        // the sum alone is asked of the seven, but none of them is negative
+        assert_eq!(say(&[(3, 0), (7, 1)]), Ok(5));
+        assert_eq!(say(&[(3, 2), (4, -1)]), refused(18, 34));
+        let highest = -lowest - 1;
+        let kept = [(1, lowest), (2, highest), (3, 1), (4, 1)];
+        assert_eq!(say(&kept), refused(18, 34));
+        // a sum that is right only where it wraps
+        assert_eq!(say(&[(1, highest), (2, highest), (3, 3)]), refused(18, 34));
+    }
+    let quarter = 1 << 30;
+    let four = [1, 2, 4, 5].map(|nth| (nth, quarter));
+    assert_eq!(changed(4, 60, &four), refused(18, 34));
+    assert_eq!(changed(4, 64, &[(8, 1 << 16)]), refused(18, 34));
+}
+
+#[test]
+fn the_sixteenth_count_and_later_ones() {
+    assert_eq!(changed(4, 60, &[(15, 7)]), Ok(5));
+    assert_eq!(changed(4, 60, &[(14, 1)]), refused(18, 34));
+    assert_eq!(changed(4, 64, &[(15, 0)]), refused(18, 34));
+    assert_eq!(changed(4, 64, &[(16, -1)]), Ok(5));
+    assert_eq!(changed(4, 72, &[(16, -(1 << 31)), (17, 9)]), Ok(5));
+    // without the count, no child with tag 92 is right too
+    let none = [record(16, 0, &[0; 30]), record(17, 0, &[0; 60])].concat();
+    assert_eq!(read_docinfo(&none, 2).map(|rows| rows.len()), Ok(2));
 }
 
 #[test]

@@ -1,46 +1,48 @@
--- The bits of a count, two bytes of the body. Assumes nothing.
-use Rattle.docinfo.proofs.CountLaws.{count-short, count-whole}
-use Rattle.numbers.proofs.LittleLaws.{slice-bytes}
+-- The bits of a count, some bytes of the body. Assumes nothing.
 use borrow.Author.Needs.{needs}
+use native.Mathlib.Omega.{arith}
+use native.Mathlib.Nat.{le-of-lt, mul-le-mul}
+use Rattle.docinfo.proofs.CountLaws.{count-short, count-whole}
 use Rattle.docinfo.proofs.counts.count_at.Statement.{statement}
 use Rattle.docinfo.proofs.counts.count_at.Tie as tie
 use Rattle.docinfo.proofs.counts.count_at.Reads as reads
 use Rattle.docinfo.proofs.counts.count_at.Lts as lts
-use Rattle.numbers.proofs.number16.Reads as number16-reads
+use Rattle.docinfo.proofs.widths.count.Reads as count-reads
+use Rattle.docinfo.proofs.widths.count_bytes.Reads as count-bytes-reads
+
+count-bytes-requires : tie.Need-count-bytes-requires
+count-bytes-requires c κs = search needs
 
 mul-at : tie.Need-mul-at
-mul-at c = search needs
+mul-at c = omega (arith, mul-le-mul (c .count-bytes .ensures .1) (le-of-lt (c .before .before .pre)))
 
 returns : tie.Need-returns
-returns c = count-short _ _ (c .if1 .taken)
+returns c = count-short _ _ _ (c .before .count-bytes .ensures .0) (c .if1 .taken)
 
-sub-number16 : tie.Need-sub-number16
-sub-number16 c = search needs
+sub-count : tie.Need-sub-count
+sub-count c = search needs
 
-part-number16-start : tie.Need-part-number16-start
-part-number16-start c = search needs
+part-count-start : tie.Need-part-count-start
+part-count-start c = search needs
 
-part-number16-end : tie.Need-part-number16-end
-part-number16-end c = search needs
+part-count-end : tie.Need-part-count-end
+part-count-end c = search needs
 
-number16-requires : tie.Need-number16-requires
-number16-requires c κs = search needs
-
-cast-result : tie.Need-cast-result
-cast-result c = search needs
+count-requires : tie.Need-count-requires
+count-requires c κs = search needs
 
 returns-2 : tie.Need-returns-2
-returns-2 c = count-whole _ _ _ (slice-bytes (c .before .before .before .before .args .body .now) (c .before .before .before .shared-slice-known .given)) (c .number16 .ensures)
+returns-2 c = (count-whole _ _ _ (c .before .before .before .count-bytes .ensures .0) (c .count .ensures .0), c .count .ensures .1)
 
 pub count-at-spec : {M : Type 1} → statement M
 count-at-spec =
     tie.close
     (tie.spec
+    count-bytes-requires
     mul-at
     returns
-    sub-number16
-    part-number16-start
-    part-number16-end
-    number16-requires
-    cast-result
+    sub-count
+    part-count-start
+    part-count-end
+    count-requires
     returns-2)

@@ -3,7 +3,7 @@ use borrow.Author.Needs.{needs}
 use native.Mathlib.Omega.{arith}
 use Prim.Native.Nat.{_-_}
 use mathlib.Core.Path.{refl, sym, ap, _∙_}
-use Rattle.numbers.specs.Little.{span}
+use Rattle.docinfo.specs.Widths.{countBytes}
 use Rattle.docinfo.specs.Counts.{verdictOf}
 use Rattle.docinfo.proofs.CountLaws.{Negating, negative-end, negative-here, negative-next}
 use Rattle.docinfo.proofs.counts.first_negative.Statement.{statement}
@@ -11,24 +11,30 @@ use Rattle.docinfo.proofs.counts.first_negative.Tie as tie
 use Rattle.docinfo.proofs.counts.first_negative.Reads as reads
 use Rattle.docinfo.proofs.counts.first_negative.Lts as lts
 use Rattle.docinfo.proofs.counts.count_at.Reads as count-at-reads
+use Rattle.docinfo.proofs.widths.count_span.Reads as count-span-reads
 
 abbrev Inv-loop : tie.InvT-loop
-Inv-loop body i₀ i = Negating 2 body 16 i
+Inv-loop body width i₀ i = Negating (countBytes width) body 16 i
 
 abbrev μ-loop : tie.MeasureT-loop
-μ-loop body i₀ i = 16 - i
+μ-loop body width i₀ i = 16 - i
 
 loop-holds : tie.Need-loop-holds Inv-loop μ-loop
 loop-holds c = record { inside = omega arith; left = refl }
 
+count-span-requires : tie.Need-count-span-requires Inv-loop μ-loop
+count-span-requires c κs = search needs
+
 count-at-requires : tie.Need-count-at-requires Inv-loop μ-loop
 count-at-requires c κs = search needs
 
+mul-if1 : tie.Need-mul-if1 Inv-loop μ-loop
+mul-if1 c = search needs
+
 returns : tie.Need-returns Inv-loop μ-loop
-unfolding span
 returns c =
-    let at-loop = c .before .before .before .loop in
-    sym (ap verdictOf (at-loop .inv .left ∙ negative-here _ _ 16 (at-loop .i) (omega arith) (omega (arith, c .before .count-at .ensures))))
+    let at-loop = c .before .before .before .before .loop in
+    sym (ap verdictOf (at-loop .inv .left ∙ negative-here _ _ 16 (at-loop .i) (omega arith) (omega (arith, c .before .count-at .ensures, c .before .before .count-span .ensures))))
 
 add-i : tie.Need-add-i Inv-loop μ-loop
 add-i c = search needs
@@ -37,12 +43,11 @@ loop-less : tie.Need-loop-less Inv-loop μ-loop
 loop-less c = search needs
 
 loop-again : tie.Need-loop-again Inv-loop μ-loop
-unfolding span
 loop-again c =
-    let at-loop = c .before .before .before .loop in
+    let at-loop = c .before .before .before .before .loop in
     record {
       inside = omega arith;
-      left = at-loop .inv .left ∙ negative-next _ _ 16 (at-loop .i) (omega arith) (omega (arith, c .before .count-at .ensures));
+      left = at-loop .inv .left ∙ negative-next _ _ 16 (at-loop .i) (omega arith) (omega (arith, c .before .count-at .ensures, c .before .before .count-span .ensures));
     }
 
 returns-2 : tie.Need-returns-2 Inv-loop μ-loop
@@ -55,7 +60,9 @@ first-negative-spec =
     Inv-loop
     μ-loop
     loop-holds
+    count-span-requires
     count-at-requires
+    mul-if1
     returns
     add-i
     loop-less

@@ -4,21 +4,21 @@ use native.Mathlib.Omega.{arith}
 use Prim.Native.Nat.{_-_}
 use mathlib.Core.Path.{refl}
 use Rattle.records.specs.Parents.{children}
+use Rattle.docinfo.specs.Widths.{countBytes}
 use Rattle.docinfo.proofs.WalkLaws.{rest}
 use Rattle.docinfo.proofs.CountLaws.{Matching, matching-end, matching-here, matching-next}
 use Rattle.docinfo.proofs.counts.first_unmatched.Statement.{statement}
 use Rattle.docinfo.proofs.counts.first_unmatched.Tie as tie
 use Rattle.docinfo.proofs.counts.first_unmatched.Reads as reads
 use Rattle.docinfo.proofs.counts.first_unmatched.Lts as lts
-use Rattle.docinfo.proofs.children.count_children.Reads as count-children-reads
+use Rattle.docinfo.proofs.counts.is_matched.Reads as is-matched-reads
 use Rattle.docinfo.proofs.counts.row.Reads as row-reads
-use Rattle.docinfo.proofs.counts.sum_counts.Reads as sum-counts-reads
 
 abbrev Inv-loop : tie.InvT-loop
-Inv-loop s body behind i₀ i = Matching 2 body (children 1 (rest 1 s (behind .0))) i
+Inv-loop s body width behind i₀ i = Matching (countBytes width) body (children 1 (rest 1 s (behind .0))) i
 
 abbrev μ-loop : tie.MeasureT-loop
-μ-loop s body behind i₀ i = 10 - i
+μ-loop s body width behind i₀ i = 10 - i
 
 loop-holds : tie.Need-loop-holds Inv-loop μ-loop
 loop-holds c = record { inside = omega arith; left = refl }
@@ -26,15 +26,12 @@ loop-holds c = record { inside = omega arith; left = refl }
 row-requires : tie.Need-row-requires Inv-loop μ-loop
 row-requires c κs = search needs
 
-sum-counts-requires : tie.Need-sum-counts-requires Inv-loop μ-loop
-sum-counts-requires c κs = search needs
-
-count-children-requires : tie.Need-count-children-requires Inv-loop μ-loop
-count-children-requires c κs = search needs
+is-matched-requires : tie.Need-is-matched-requires Inv-loop μ-loop
+is-matched-requires c κs = search needs
 
 returns : tie.Need-returns Inv-loop μ-loop
 returns c =
-    matching-here (c .before .before .before .before .before .loop .inv) (c .before .before .before .before .loop-test .taken) (c .before .before .before .row .ensures .0) (c .before .before .sum-counts .ensures) (c .before .count-children .ensures)
+    matching-here (c .before .before .before .before .loop .inv) (c .before .before .before .loop-test .taken) (c .before .before .row .ensures .0) (c .before .is-matched .ensures)
     (c .if1 .taken)
 
 add-i : tie.Need-add-i Inv-loop μ-loop
@@ -45,7 +42,7 @@ loop-less c = search needs
 
 loop-again : tie.Need-loop-again Inv-loop μ-loop
 loop-again c =
-    matching-next (c .before .before .before .before .before .loop .inv) (c .before .before .before .before .loop-test .taken) (c .before .before .before .row .ensures .0) (c .before .before .sum-counts .ensures) (c .before .count-children .ensures)
+    matching-next (c .before .before .before .before .loop .inv) (c .before .before .before .loop-test .taken) (c .before .before .row .ensures .0) (c .before .is-matched .ensures)
     (c .if1 .left)
 
 returns-2 : tie.Need-returns-2 Inv-loop μ-loop
@@ -59,8 +56,7 @@ first-unmatched-spec =
     μ-loop
     loop-holds
     row-requires
-    sum-counts-requires
-    count-children-requires
+    is-matched-requires
     returns
     add-i
     loop-less

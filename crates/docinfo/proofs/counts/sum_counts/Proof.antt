@@ -1,6 +1,7 @@
 -- The sum of some counts is the sum of their bits. Assumes nothing.
 use borrow.Author.Needs.{needs}
 use Prim.Native.Nat.{_-_}
+use Rattle.docinfo.specs.Widths.{countBytes}
 use Rattle.docinfo.proofs.CountLaws.{Summing, summing-start, summing-next, summing-end}
 use Rattle.docinfo.proofs.counts.sum_counts.Statement.{statement}
 use Rattle.docinfo.proofs.counts.sum_counts.Tie as tie
@@ -9,10 +10,10 @@ use Rattle.docinfo.proofs.counts.sum_counts.Lts as lts
 use Rattle.docinfo.proofs.counts.count_at.Reads as count-at-reads
 
 abbrev Inv-loop : tie.InvT-loop
-Inv-loop body first many sum₀ k₀ sum k = Summing 2 body 65536 first many sum k
+Inv-loop body width first many sum₀ k₀ sum k = Summing (countBytes width) body 4294967296 first many sum k
 
 abbrev μ-loop : tie.MeasureT-loop
-μ-loop body first many sum₀ k₀ sum k = many - k
+μ-loop body width first many sum₀ k₀ sum k = many - k
 
 loop-holds : tie.Need-loop-holds Inv-loop μ-loop
 loop-holds c = summing-start _ _ _ _ _
