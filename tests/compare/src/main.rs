@@ -1,5 +1,6 @@
 //! compare --seed N --cases N [--from N] [--service NAME,NAME..]: the linked library against the oracle.
-//! N cases of each service, or of those named. Fails on a difference, and where a number was not reached.
+//! N cases of each service, or of those named. Fails on a difference, and where a number or an edge was not
+//! reached.
 
 mod native;
 
@@ -75,6 +76,12 @@ fn main() -> ExitCode {
         if !tally.named.is_empty() {
             println!("{}: by tag {}", service.name(), tally.named_counts());
         }
+        if !tally.edges.is_empty() {
+            println!("{}: edges {}", service.name(), tally.edge_counts());
+        }
+        for (edge, times) in &tally.edges {
+            println!(" {}: {edge}: {times}", service.name());
+        }
         for (index, text) in &tally.shown {
             let name = service.name();
             println!(
@@ -82,15 +89,15 @@ fn main() -> ExitCode {
                 words.seed
             );
         }
-        for number in tally.missed(service) {
-            println!("{}: NOT REACHED: {number}", service.name());
+        for what in tally.missed(service) {
+            println!("{}: NOT REACHED: {what}", service.name());
             missed += 1;
         }
         cases += tally.cases;
         differing += tally.differing;
     }
     if missed > 0 {
-        println!("compare: {missed} numbers not reached");
+        println!("compare: {missed} numbers or edges not reached");
     }
     println!("compare: {cases} cases, {differing} differences");
     if differing + missed > 0 {

@@ -1,5 +1,6 @@
 //! A run: the cases of each service, what was reached and what differed.
 
+use crate::edges::reached;
 use crate::judge::{judge, Case};
 use crate::service::Service;
 use crate::subject::Subject;
@@ -11,6 +12,7 @@ pub struct Tally {
     pub cases: u64,
     pub numbers: BTreeMap<u8, u64>,
     pub named: BTreeMap<(u8, u32), u64>,
+    pub edges: BTreeMap<String, u64>,
     /// Index and text of the first cases that differed.
     pub shown: Vec<(u64, String)>,
     pub differing: u64,
@@ -21,6 +23,7 @@ const SHOWN: usize = 5;
 /// Runs the cases with indexes `from` up to but not including `to`.
 pub fn run(service: Service, seed: u64, from: u64, to: u64, subject: &dyn Subject) -> Tally {
     let mut tally = Tally::default();
+    let edges = service.edges();
     for index in from..to {
         let (case, shift) = service.case(seed, index);
         let outcome = judge(&case, shift, subject);
@@ -28,6 +31,9 @@ pub fn run(service: Service, seed: u64, from: u64, to: u64, subject: &dyn Subjec
         *tally.numbers.entry(outcome.number).or_default() += 1;
         if let Some(tag) = outcome.tag {
             *tally.named.entry((outcome.number, tag)).or_default() += 1;
+        }
+        for edge in reached(&edges, &case, &outcome) {
+            *tally.edges.entry(edge.name.clone()).or_default() += 1;
         }
         if !outcome.differences.is_empty() {
             tally.differing += 1;
@@ -41,16 +47,26 @@ pub fn run(service: Service, seed: u64, from: u64, to: u64, subject: &dyn Subjec
 }
 
 impl Tally {
-    /// The numbers, and the pairs of number and tag, that must be reached and were not.
+    /// The numbers, the pairs of number and tag, and the edges that must be reached and were not.
     pub fn missed(&self, service: Service) -> Vec<String> {
         let numbers = service.numbers().iter();
         let named = service.named().iter();
+        let edges = service.edges().into_iter();
         let missed = numbers.filter(|number| !self.numbers.contains_key(number));
         let unnamed = named.filter(|pair| !self.named.contains_key(pair));
+        let unmet = edges.filter(|edge| !self.edges.contains_key(&edge.name));
         missed
             .map(|number| format!("{number}"))
             .chain(unnamed.map(|(number, tag)| format!("{number} of a record {tag}")))
+            .chain(unmet.map(|edge| edge.name))
             .collect()
+    }
+
+    /// How many edges were reached, and which of them least often.
+    pub fn edge_counts(&self) -> String {
+        let least = self.edges.iter().min_by_key(|(_, times)| **times);
+        let least = least.map_or(String::new(), |(name, times)| format!("{name}:{times}"));
+        format!("{}, least often {least}", self.edges.len())
     }
 
     pub fn counts(&self) -> String {

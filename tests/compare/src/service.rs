@@ -1,6 +1,7 @@
-//! The services that are compared: their cases, and the numbers that must be reached.
+//! The services that are compared: their cases, and the numbers and edges that must be reached.
 
 use crate::cases::{docinfo, fills, packing, records, sections};
+use crate::edges::{self, Edge};
 use crate::judge::Case;
 use crate::random::Random;
 
@@ -85,6 +86,14 @@ impl Service {
             Service::DocInfo => &[(16, 16), (16, 17), (17, 16), (17, 17)],
             Service::Section | Service::Check | Service::Lister => &RULES,
             _ => &[],
+        }
+    }
+
+    /// The edges that a run must reach.
+    pub fn edges(self) -> Vec<Edge> {
+        match self {
+            Service::DocInfo => edges::docinfo(),
+            _ => Vec::new(),
         }
     }
 

@@ -1,7 +1,9 @@
 //! The cases reach what they are meant to reach: edges that no number tells apart.
 
 use compare::judge::Case;
+use compare::run::run;
 use compare::service::Service;
+use compare::subject::Oracle;
 use oracle::records::{tile, word};
 use oracle::{check, field_text, fill, read_docinfo, Row};
 use std::collections::BTreeMap;
@@ -194,4 +196,16 @@ fn docinfos_reach_the_edges() {
         seen.note("lists exact", rooms == [rows.len(); 4]);
     }
     seen.all_at_least(5);
+}
+
+/// The edges that a run itself demands are reached by the run of the gate, and each is missed where it is not.
+#[test]
+fn each_edge_of_docinfo_is_demanded() {
+    let mut tally = run(Service::DocInfo, 1, 0, 10_000, &Oracle);
+    assert_eq!(tally.missed(Service::DocInfo), [""; 0]);
+    for edge in Service::DocInfo.edges() {
+        let times = tally.edges.remove(&edge.name);
+        assert_eq!(tally.missed(Service::DocInfo), [edge.name.clone()]);
+        tally.edges.extend(times.map(|times| (edge.name, times)));
+    }
 }

@@ -24,11 +24,67 @@ fn counts(random: &mut Random, groups: &[usize; 10]) -> [i64; 16] {
     counts
 }
 
-fn counts_body(counts: &[i64; 16]) -> Vec<u8> {
-    let counts = counts.iter();
-    counts
-        .flat_map(|&count| (count as i16).to_le_bytes())
-        .collect()
+/// How record 17 is written: the bytes of a count, and those of the body.
+#[derive(Clone, Copy)]
+struct Form {
+    width: usize,
+    length: usize,
+}
+
+impl Form {
+    /// A form that DocInfo read takes; behind sixteen wide counts stand any others.
+    fn right(random: &mut Random) -> Form {
+        let several = 4 * random.from_to(15, 40);
+        match random.below(40) {
+            0..=13 => NARROW,
+            14 => wide(random.pick(&[4092, 4096, 4100])),
+            15..=18 => wide(several),
+            _ => wide(random.pick(&[60, 60, 60, 64, 64, 64, 68, 72, 72, 76, 80])),
+        }
+    }
+
+    /// Either width with any length about those that are right, those of the other width more often.
+    fn any(random: &mut Random) -> Form {
+        match random.below(10) {
+            0 => wide(random.pick(&[0, 4, 16, 4095, 4097, 4098])),
+            1 => wide(NARROW.length),
+            2 => Form {
+                length: random.pick(&[60, 64]),
+                ..NARROW
+            },
+            _ => Form {
+                width: random.pick(&[2, 4]),
+                length: random.from_to(28, 80),
+            },
+        }
+    }
+
+    /// The highest count of the width.
+    fn highest(self) -> i64 {
+        (1 << (8 * self.width - 1)) - 1
+    }
+
+    /// The counts, cut at the length; where it is longer, later counts of 32 bits, the signs and the ends among them.
+    fn body(self, random: &mut Random, counts: &[i64; 16]) -> Vec<u8> {
+        let bytes = |count: &i64| count.to_le_bytes()[..self.width].to_vec();
+        let mut body: Vec<u8> = counts.iter().flat_map(bytes).collect();
+        while body.len() < self.length {
+            let any = random.next() as i32;
+            let later = random.pick(&[0, 0, 1, -1, i32::MIN, i32::MAX, any]);
+            body.extend_from_slice(&later.to_le_bytes());
+        }
+        body.truncate(self.length);
+        body
+    }
+}
+
+const NARROW: Form = Form {
+    width: 2,
+    length: 32,
+};
+
+const fn wide(length: usize) -> Form {
+    Form { width: 4, length }
 }
 
 /// A child of record 17, at times with children of its own, which no count is about.
@@ -45,8 +101,8 @@ fn child(random: &mut Random, tag: u32) -> Part {
     part
 }
 
-/// Record 17 with children for the groups, and its counts.
-fn counted(random: &mut Random, groups: &[usize; 10], counts: &[i64; 16]) -> Part {
+/// Record 17 with this body, and children for the groups.
+fn counted(random: &mut Random, groups: &[usize; 10], body: Vec<u8>) -> Part {
     let mut children: Vec<Part> = Vec::new();
     for (group, &tag) in groups.iter().zip(&GROUPS) {
         for _ in 0..*group {
@@ -60,7 +116,7 @@ fn counted(random: &mut Random, groups: &[usize; 10], counts: &[i64; 16]) -> Par
     if random.once_in(2) {
         random.shuffle(&mut children);
     }
-    let mut part = vec![Draft::new(17, 0, counts_body(counts))];
+    let mut part = vec![Draft::new(17, 0, body)];
     part.extend(children.into_iter().flatten());
     part
 }
@@ -86,19 +142,58 @@ fn properties(random: &mut Random) -> Part {
     vec![Draft::new(16, 0, random.bytes(length))]
 }
 
-/// Makes one count wrong: off by one, negative, or negative with the sum kept.
-fn break_counts(random: &mut Random, counts: &mut [i64; 16]) {
-    let any = random.below(16);
-    match random.below(5) {
+/// Adds to the six counts of faces beside this one, as much to each as leaves it at most `most`.
+fn add_beside(counts: &mut [i64; 16], beside: usize, mut more: i64, most: i64) {
+    for step in 1..7 {
+        let count = &mut counts[1 + (beside - 1 + step) % 7];
+        let part = more.min(most - *count);
+        *count += part;
+        more -= part;
+    }
+}
+
+/// Counts at a sign bit: of the narrow width, and for the wide one also of its own and of the half below it.
+const AT_SIGNS: [i64; 8] = [
+    -1,
+    -32_768,
+    32_767,
+    32_768,
+    65_535,
+    0x1_8000,
+    -(1 << 31),
+    (1 << 31) - 1,
+];
+
+/// Those that a count of so many bytes can be.
+pub fn at_signs(width: usize) -> &'static [i64] {
+    match width {
+        2 => &AT_SIGNS[..3],
+        _ => &AT_SIGNS,
+    }
+}
+
+/// Makes counts wrong: off by one, at a sign bit, with only half of the bits right, swapped, negative with the sum kept,
+/// or with a sum that is right only where it wraps at either width.
+fn break_counts(random: &mut Random, counts: &mut [i64; 16], form: Form) {
+    let (any, face) = (random.below(16), random.from_to(1, 7));
+    let highest = form.highest();
+    match random.below(9) {
         0 => counts[any] += 1,
         1 => counts[any] -= 1,
-        2 => counts[any] = random.pick(&[-1, -32_768, 32_767]),
-        3 => {
-            let (down, up) = (random.from_to(1, 7), random.from_to(1, 7));
-            counts[up] += counts[down] + 1;
-            counts[down] = -1;
+        2 | 3 => counts[any] = random.pick(at_signs(form.width)),
+        4 => counts[any] += 1 << (4 * form.width),
+        5 => counts.swap(any, random.below(16)),
+        6 => {
+            let negative = random.pick(&[-1, -highest - 1]);
+            let more = counts[face] - negative;
+            counts[face] = negative;
+            add_beside(counts, face, more, highest);
         }
-        _ => counts.swap(any, random.below(16)),
+        7 => add_beside(counts, face, 1 << 16, highest),
+        _ => {
+            let most = random.pick(&[highest, highest / 2 + 1]);
+            add_beside(counts, face, 2 * (highest + 1), most);
+        }
     }
 }
 
@@ -107,7 +202,7 @@ fn break_length(random: &mut Random, draft: &mut Draft) {
     let length = if draft.tag == 16 {
         random.pick(&[0, 1, 28, 29, 29, 30])
     } else {
-        random.pick(&[0, 30, 31, 33, 34, 36, 64])
+        Form::any(random).length
     };
     draft.body.resize(length, 0);
 }
@@ -151,20 +246,25 @@ fn break_place(random: &mut Random, parts: &mut Vec<Part>) {
     }
 }
 
-fn parts(random: &mut Random) -> Vec<Part> {
-    let mut groups = [0; 10];
-    for group in &mut groups {
-        *group = random.pick(&[0, 0, 1, 2, 3, 7]);
-    }
+/// Records 16 and 17 with what belongs to them; the damage says what is wrong with the counts.
+fn two_parts(random: &mut Random, damage: usize) -> Vec<Part> {
+    let groups = [0; 10].map(|_| random.pick(&[0, 0, 1, 2, 3, 7]));
     let mut counts = counts(random, &groups);
-    let damage = random.below(8);
-    if damage == 0 {
-        break_counts(random, &mut counts);
+    let mut form = Form::right(random);
+    let mut present = groups;
+    match damage {
+        0..=2 => break_counts(random, &mut counts, form),
+        3 => present[random.pick(&[0, 1, 2, 3, 4, 5, 6, 7, 8, 8, 9, 9])] += 1,
+        4..=6 => form = Form::any(random),
+        _ => {}
     }
-    if damage == 1 {
-        groups[random.below(10)] += 1;
-    }
-    let mut parts = vec![properties(random), counted(random, &groups, &counts)];
+    let body = form.body(random, &counts);
+    vec![properties(random), counted(random, &present, body)]
+}
+
+fn parts(random: &mut Random) -> Vec<Part> {
+    let damage = random.below(16);
+    let mut parts = two_parts(random, damage);
     if random.once_in(4) {
         parts.swap(0, 1);
     }
@@ -174,16 +274,16 @@ fn parts(random: &mut Random) -> Vec<Part> {
             parts.insert(index, part);
         }
     }
-    if matches!(damage, 2 | 6) {
-        let found = parts
-            .iter_mut()
-            .flatten()
-            .filter(|d| d.tag == 16 || d.tag == 17);
-        let mut found: Vec<&mut Draft> = found.collect();
-        let index = random.below(found.len());
-        break_length(random, found[index]);
+    if matches!(damage, 7 | 8) {
+        let all = random.once_in(3);
+        let found = parts.iter_mut().flatten();
+        for draft in found.filter(|draft| draft.tag == 16 || draft.tag == 17) {
+            if all || random.once_in(2) {
+                break_length(random, draft);
+            }
+        }
     }
-    if matches!(damage, 3 | 4 | 6) {
+    if matches!(damage, 8..=10) {
         for _ in 0..random.from_to(1, 2) {
             break_place(random, &mut parts);
         }
@@ -215,42 +315,61 @@ pub fn case(random: &mut Random) -> Case {
 }
 
 /// The number of kinds of long cases.
-pub const LONG_KINDS: usize = 6;
+pub const LONG_KINDS: usize = 8;
+
+/// The form of record 17, its counts other than 0, and the numbers of children by tag.
+type Long = (Form, &'static [(usize, i64)], &'static [(u32, usize)]);
 
 /// As many children as the counts can say, and more than 16 bits can count.
+const LONG: [Long; LONG_KINDS] = [
+    // the seven counts at their highest
+    (
+        NARROW,
+        &[
+            (1, 32_767),
+            (2, 32_767),
+            (3, 32_767),
+            (4, 32_767),
+            (5, 32_767),
+            (6, 32_767),
+            (7, 32_767),
+        ],
+        &[(19, 7 * 32_767)],
+    ),
+    // more than one count could say, and a count at its highest
+    (
+        NARROW,
+        &[(2, 32_767), (7, 7233), (15, 32_767)],
+        &[(19, 40_000), (92, 32_767)],
+    ),
+    // a number of children that 16 bits would take for the count
+    (NARROW, &[(8, 5)], &[(20, 65_536 + 5)]),
+    // a count that would say the number of children if it had no sign
+    (NARROW, &[(9, 40_000)], &[(21, 40_000)]),
+    (NARROW, &[(3, 3)], &[(19, 65_536 + 3)]),
+    // over the limit
+    (NARROW, &[], &[(18, LIMIT / 4)]),
+    // wide counts with a sign in their lower half, and beyond it
+    (
+        wide(64),
+        &[(3, 65_536 + 3), (8, 40_000), (15, 65_535)],
+        &[(19, 65_536 + 3), (20, 40_000), (92, 65_535)],
+    ),
+    // as many children as only the absent sixteenth count would say
+    (wide(60), &[(14, 65_536)], &[(26, 65_536), (92, 65_537)]),
+];
+
 pub fn long_case(random: &mut Random, which: usize) -> Case {
-    let mut counts = [0i64; 16];
-    let (tag, children) = match which % LONG_KINDS {
-        // the seven counts at their highest
-        0 => {
-            counts[1..8].fill(32_767);
-            (19, 7 * 32_767)
-        }
-        // more than one count could say
-        1 => {
-            counts[2] = 32_767;
-            counts[7] = 7233;
-            (19, 40_000)
-        }
-        // a number of children that 16 bits would take for the count
-        2 => {
-            counts[8] = 5;
-            (20, 65_536 + 5)
-        }
-        3 => {
-            counts[15] = 32_767;
-            (92, 32_767)
-        }
-        4 => {
-            counts[3] = 3;
-            (19, 65_536 + 3)
-        }
-        // over the limit
-        _ => (18, LIMIT / 4),
-    };
+    let (form, counted, children) = LONG[which % LONG_KINDS];
+    let mut counts = [0; 16];
+    for &(nth, count) in counted {
+        counts[nth] = count;
+    }
     let mut drafts = properties(random);
-    drafts.push(Draft::new(17, 0, counts_body(&counts)));
-    drafts.extend((0..children).map(|_| Draft::new(tag, 1, Vec::new())));
+    drafts.push(Draft::new(17, 0, form.body(random, &counts)));
+    for &(tag, number) in children {
+        drafts.extend((0..number).map(|_| Draft::new(tag, 1, Vec::new())));
+    }
     Case::Read {
         kind: Kind::DocInfo,
         stream: write_stream(&drafts),
