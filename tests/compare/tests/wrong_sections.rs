@@ -7,6 +7,7 @@ use compare::lend::{Given, Room};
 use compare::run::run;
 use compare::service::Service;
 use compare::subject::{Kind, Lists, Oracle, Subject};
+use oracle::docinfo::{children, counts, groups, layout, Layout};
 use oracle::lister::INPUT;
 use oracle::records::{half, tile, word};
 use oracle::section::field_id_place;
@@ -27,8 +28,29 @@ struct Fill<'a> {
     nth: u32,
 }
 
+/// How record 17's counts are taken.
+#[derive(Clone, Copy)]
+struct Counting {
+    layout: fn(u32) -> Option<Layout>,
+    /// What a count is taken for.
+    count: fn(i64) -> i64,
+    /// What the sum of the seven counts is taken for.
+    sum: fn(i64) -> i64,
+    /// Whether a negative count is refused.
+    sign: bool,
+}
+
+/// As the oracle takes them.
+const RIGHT: Counting = Counting {
+    layout,
+    count: |count| count,
+    sum: |sum| sum,
+    sign: true,
+};
+
 /// The oracle with twists.
 struct Twisted {
+    counting: Counting,
     read: OnRead,
     field_text: OnFieldText,
     fill: OnFill,
@@ -37,6 +59,7 @@ struct Twisted {
 }
 
 const STRAIGHT: Twisted = Twisted {
+    counting: RIGHT,
     read: |_, answer| answer,
     field_text: |_, _, answer| answer,
     fill: |_, answer| answer,
@@ -46,9 +69,13 @@ const STRAIGHT: Twisted = Twisted {
 
 impl Subject for Twisted {
     fn read(&self, kind: Kind, stream: Given<u8>, lists: Lists) -> u64 {
-        let answer = Oracle.read(kind, stream, lists);
+        let mut answer = Oracle.read(kind, stream, lists);
         // SAFETY: the comparator lends the memory for the length of the call.
-        (self.read)(unsafe { stream.slice() }, answer)
+        let stream = unsafe { stream.slice() };
+        if kind == Kind::DocInfo {
+            answer = recounted(stream, answer, &self.counting);
+        }
+        (self.read)(stream, answer)
     }
 
     fn pack(&self, count: u64, lists: [Given<u32>; 4], bytes: Given<u8>, out: Room<u8>) -> u64 {
@@ -253,7 +280,131 @@ const SECTION_TWISTS: [(&str, OnRead); 22] = [
     }),
 ];
 
+/// Judges record 17 by another way to take its counts, where the oracle came to it.
+fn recounted(stream: &[u8], found: u64, counting: &Counting) -> u64 {
+    let rows = rows(stream);
+    let judged = match number_of(found) {
+        0 | 18 => true,
+        17 => named_tag(stream, found) == 17,
+        _ => false,
+    };
+    let index = rows.iter().position(|row| row.tag == 17);
+    let Some(index) = index.filter(|_| judged) else {
+        return found;
+    };
+    let place = rows[index].header();
+    let Some(layout) = (counting.layout)(rows[index].length) else {
+        return answer(17, place, 0);
+    };
+    let counts = counts(rows[index].body(stream), layout).into_iter();
+    let counts: Vec<i64> = counts.map(counting.count).collect();
+    let mut groups = groups(&counts);
+    groups[1] = (counting.sum)(groups[1]);
+    let negative = counting.sign && counts.iter().any(|&count| count < 0);
+    let mut pairs = groups.into_iter().zip(children(&rows, index));
+    match !negative && pairs.all(|(count, number)| count == number) {
+        true => accept(stream),
+        false => answer(18, place, 0),
+    }
+}
+
+/// Takes one length more, as that of wide counts.
+fn takes<const LENGTH: u32>(length: u32) -> Option<Layout> {
+    match length == LENGTH {
+        true => Some(Layout {
+            width: 4,
+            asked: 16.min(length / 4),
+        }),
+        false => layout(length),
+    }
+}
+
+fn refuses<const LENGTH: u32>(length: u32) -> Option<Layout> {
+    layout(length).filter(|_| length != LENGTH)
+}
+
+/// Takes what should be wide counts for others.
+fn wide_as(length: u32, width: u32, asked: u32) -> Option<Layout> {
+    layout(length).map(|right| match right.width {
+        4 => Layout { width, asked },
+        _ => right,
+    })
+}
+
+const fn by_layout(layout: fn(u32) -> Option<Layout>) -> Counting {
+    Counting { layout, ..RIGHT }
+}
+
+const fn by_count(count: fn(i64) -> i64) -> Counting {
+    Counting { count, ..RIGHT }
+}
+
+const fn by_sum(sum: fn(i64) -> i64) -> Counting {
+    Counting { sum, ..RIGHT }
+}
+
+const WRONG_COUNTINGS: [(&str, Counting); 19] = [
+    (
+        "knows no wide counts",
+        by_layout(|length| layout(length).filter(|right| right.width == 2)),
+    ),
+    ("knows no narrow counts", by_layout(refuses::<32>)),
+    (
+        "reads wide counts as narrow",
+        by_layout(|length| wide_as(length, 2, 16)),
+    ),
+    ("reads narrow counts as wide", by_layout(takes::<32>)),
+    ("takes 36 bytes", by_layout(takes::<36>)),
+    ("takes 56 bytes", by_layout(takes::<56>)),
+    ("takes 62 bytes", by_layout(takes::<62>)),
+    ("takes 63 bytes", by_layout(takes::<63>)),
+    ("refuses 60 bytes", by_layout(refuses::<60>)),
+    ("refuses 80 bytes", by_layout(refuses::<80>)),
+    (
+        "refuses the long form",
+        by_layout(|length| layout(length).filter(|_| length < 4095)),
+    ),
+    (
+        "asks no fifteenth count",
+        by_layout(|length| wide_as(length, 4, 14)),
+    ),
+    (
+        "asks no sixteenth count",
+        by_layout(|length| wide_as(length, 4, 15)),
+    ),
+    (
+        "asks the sign of later counts",
+        by_layout(|length| wide_as(length, 4, length / 4)),
+    ),
+    ("adds in 32 bits", by_sum(|sum| i64::from(sum as i32))),
+    ("adds in 16 bits", by_sum(|sum| i64::from(sum as i16))),
+    (
+        "takes the lower half of a count",
+        by_count(|count| i64::from(count as i16)),
+    ),
+    (
+        "takes 16 bits without a sign",
+        by_count(|count| match count {
+            -32_768..=-1 => count + 65_536,
+            _ => count,
+        }),
+    ),
+    (
+        "takes negative counts",
+        Counting {
+            sign: false,
+            ..RIGHT
+        },
+    ),
+];
+
 const DOCINFO_TWISTS: [(&str, OnRead); 8] = [
+    ("asks the sixteenth of 60 bytes", |stream, found| {
+        refuse_where(stream, found, 18, |rows, index| {
+            let short = rows[index].tag == 17 && rows[index].length == 60;
+            short && children(rows, index)[9] > 0
+        })
+    }),
     ("takes a longer 17", |stream, found| {
         let row = named(stream, found).map(|index| rows(stream)[index]);
         match row.filter(|row| number_of(found) == 17 && row.tag == 17 && row.length > 32) {
@@ -263,15 +414,6 @@ const DOCINFO_TWISTS: [(&str, OnRead); 8] = [
     }),
     ("takes a short 16", |stream, found| {
         accept_where(stream, found, 17, 16)
-    }),
-    ("takes negative counts", |stream, found| {
-        let index = named(stream, found).filter(|_| number_of(found) == 18);
-        let body = index.map(|index| rows(stream)[index].body(stream).to_vec());
-        let negative = |body: &Vec<u8>| body.chunks_exact(2).any(|count| count[1] & 128 != 0);
-        match body.filter(negative) {
-            Some(_) => accept(stream),
-            None => found,
-        }
     }),
     ("counts children of children", |stream, found| {
         refuse_where(stream, found, 18, |rows, index| {
@@ -308,7 +450,8 @@ const DOCINFO_TWISTS: [(&str, OnRead); 8] = [
     }),
     ("judges 17's length first", |stream, found| {
         let rows = rows(stream);
-        let counts = rows.iter().find(|row| row.tag == 17 && row.length != 32);
+        let wrong = |row: &&Row| row.tag == 17 && layout(row.length).is_none();
+        let counts = rows.iter().find(wrong);
         match counts.filter(|_| number_of(found) == 17) {
             Some(row) => answer(17, row.header(), 0),
             None => found,
@@ -676,6 +819,13 @@ fn a_section_read_that_gives_7_last_is_caught() {
 fn each_wrong_docinfo_read_is_caught() {
     for (name, read) in DOCINFO_TWISTS {
         let subject = Twisted { read, ..STRAIGHT };
+        assert!(caught(Service::DocInfo, &subject), "{name}");
+    }
+    for (name, counting) in WRONG_COUNTINGS {
+        let subject = Twisted {
+            counting,
+            ..STRAIGHT
+        };
         assert!(caught(Service::DocInfo, &subject), "{name}");
     }
 }
