@@ -817,6 +817,7 @@ fn a_section_read_that_gives_7_last_is_caught() {
 
 #[test]
 fn each_wrong_docinfo_read_is_caught() {
+    assert!(!caught(Service::DocInfo, &STRAIGHT), "the right counting");
     for (name, read) in DOCINFO_TWISTS {
         let subject = Twisted { read, ..STRAIGHT };
         assert!(caught(Service::DocInfo, &subject), "{name}");
