@@ -4,7 +4,7 @@
 
 mod native;
 
-use compare::run::run;
+use compare::run::{run, Tally};
 use compare::service::{Service, ALL};
 use std::process::ExitCode;
 
@@ -59,6 +59,29 @@ fn named(name: &str) -> Result<Service, String> {
     service.ok_or(format!("no service {name} is linked"))
 }
 
+/// Prints what the cases of a service showed, and gives how much was not reached.
+fn report(service: Service, seed: u64, tally: &Tally) -> usize {
+    let name = service.name();
+    println!("{name}: {}", tally.counts());
+    if !tally.named.is_empty() {
+        println!("{name}: by tag {}", tally.named_counts());
+    }
+    if !tally.edges.is_empty() {
+        println!("{name}: edges {}", tally.edge_counts());
+    }
+    for (edge, times) in &tally.edges {
+        println!(" {name}: {edge}: {times}");
+    }
+    for (index, text) in &tally.shown {
+        println!("{name}: DIFFERENCE, seed {seed} case {index}: {text}");
+    }
+    let missed = tally.missed(service);
+    for what in &missed {
+        println!("{name}: NOT REACHED: {what}");
+    }
+    missed.len()
+}
+
 fn main() -> ExitCode {
     let words = match words() {
         Ok(words) => words,
@@ -72,27 +95,7 @@ fn main() -> ExitCode {
     for service in words.services {
         let to = words.from + words.cases;
         let tally = run(service, words.seed, words.from, to, &native::Native);
-        println!("{}: {}", service.name(), tally.counts());
-        if !tally.named.is_empty() {
-            println!("{}: by tag {}", service.name(), tally.named_counts());
-        }
-        if !tally.edges.is_empty() {
-            println!("{}: edges {}", service.name(), tally.edge_counts());
-        }
-        for (edge, times) in &tally.edges {
-            println!(" {}: {edge}: {times}", service.name());
-        }
-        for (index, text) in &tally.shown {
-            let name = service.name();
-            println!(
-                "{name}: DIFFERENCE, seed {} case {index}: {text}",
-                words.seed
-            );
-        }
-        for what in tally.missed(service) {
-            println!("{}: NOT REACHED: {what}", service.name());
-            missed += 1;
-        }
+        missed += report(service, words.seed, &tally);
         cases += tally.cases;
         differing += tally.differing;
     }
@@ -100,7 +103,7 @@ fn main() -> ExitCode {
         println!("compare: {missed} numbers or edges not reached");
     }
     println!("compare: {cases} cases, {differing} differences");
-    if differing + missed > 0 {
+    if differing > 0 || missed > 0 {
         return ExitCode::FAILURE;
     }
     ExitCode::SUCCESS

@@ -205,7 +205,7 @@ fn each_edge_of_docinfo_is_demanded() {
     assert_eq!(tally.missed(Service::DocInfo), [""; 0]);
     for edge in Service::DocInfo.edges() {
         let times = tally.edges.remove(&edge.name);
-        assert_eq!(tally.missed(Service::DocInfo), [edge.name.clone()]);
+        assert_eq!(tally.missed(Service::DocInfo), [edge.name.as_str()]);
         tally.edges.extend(times.map(|times| (edge.name, times)));
     }
 }
