@@ -39,7 +39,7 @@ unfoldable pub sumFrom : ℕ → List ℕ → ℕ → ℕ → ℕ
 sumFrom w body i zero = 0
 sumFrom w body i (suc k) = countAt w body i + sumFrom w body (i + 1) k
 
--- how many counts of record 17 are asked; later ones are ignored
+-- how many counts of record 17 are asked at most; later ones are ignored
 abbrev pub countsIn : ℕ
 countsIn = 16
 

@@ -22,8 +22,8 @@ pub record Single (t : ℕ) (rs : List Rec) : Type 0 where
 abbrev pub There : ℕ → List ℕ → ℕ → Type 0
 There w body i = w * (i + 1) ≤ length body
 
--- signed counts of w bytes against the children of their record; `sign` is the least number whose top bit is set, which is negative. The
--- sixteenth is asked where it is there, and later ones are ignored
+-- signed counts of w bytes against the children of their record (document 01, 'DocInfo'): the bits of a negative count are `sign` or more.
+-- The sixteenth is asked where it is there, and later ones are ignored
 pub record CountsHold (w sign : ℕ) (body : List ℕ) (kids : List Rec) : Type 0 where
   pub none-negative : (i : ℕ) → i < 16 → There w body i → countAt w body i < sign
   pub count-0 : countAt w body 0 ≡ tally 18 kids
@@ -40,6 +40,7 @@ pub data MappingsHold (body : List ℕ) (kids : List Rec) : Type 0 where
   -- from 60 bytes up, in multiples of four, it holds signed 32-bit counts, and the sixteenth exists from 64 bytes
   of-32-bits : 60 ≤ length body → length body % 4 ≡ 0 → CountsHold 4 2147483648 body kids → MappingsHold body kids
 
+-- DocInfo's records obey document 01 and document 02
 pub record SoundDocInfo (rs : List Rec) : Type 0 where
   pub properties : Single 16 rs
   pub mappings : Single 17 rs
