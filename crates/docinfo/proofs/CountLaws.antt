@@ -109,16 +109,16 @@ groups-end i h =
     drop-of-length-le groups l
 
 -- every group lies within the sixteen counts
-abbrev InStream : List Group → Type 0
-InStream [] = Unit {0}
-InStream (g ∷ gs) = (g .first + g .many ≤ 16) × InStream gs
+abbrev InCounts : List Group → Type 0
+InCounts [] = Unit {0}
+InCounts (g ∷ gs) = (g .first + g .many ≤ 16) × InCounts gs
 
-within-at : (gs : List Group) (d : Group) (i : ℕ) → InStream gs → d .first + d .many ≤ 16 → getD gs i d .first + getD gs i d .many ≤ 16
+within-at : (gs : List Group) (d : Group) (i : ℕ) → InCounts gs → d .first + d .many ≤ 16 → getD gs i d .first + getD gs i d .many ≤ 16
 within-at [] d i w h = h
 within-at (g ∷ gs) d zero w h = w .0
 within-at (g ∷ gs) d (suc i) w h = within-at gs d i (w .1) h
 
-all-within : InStream groups
+all-within : InCounts groups
 unfolding groups
 all-within = omega arith
 

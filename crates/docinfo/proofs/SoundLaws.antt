@@ -154,6 +154,9 @@ pub record Counted (w sign : ℕ) (body : List ℕ) : Type 0 where
   pub sixteenth : (w * 16 ≤ length body) ⊎ (length body ≤ w * 15)
 
 module _ {w sign : ℕ} {body : List ℕ} (kids : List Rec) (k : Counted w sign body) where
+  abbrev NoneNegative : Type 0
+  NoneNegative = (i : ℕ) → i < 16 → There w body i → countAt w body i < sign
+
   in-order : Matched w body kids groups → (j : ℕ) → j < 7 → countAt w body (8 + j) ≡ tally (20 + j) kids
   unfolding groups sumFrom
   in-order m zero h = omega (arith, m .1 .1 .0 (omega (arith, k .fifteen)))
@@ -165,7 +168,7 @@ module _ {w sign : ℕ} {body : List ℕ} (kids : List Rec) (k : Counted w sign 
   in-order m (suc (suc (suc (suc (suc (suc zero)))))) h = omega (arith, m .1 .1 .1 .1 .1 .1 .1 .1 .0 (omega (arith, k .fifteen)))
   in-order m (suc (suc (suc (suc (suc (suc (suc j))))))) h = absurd (omega arith)
 
-  in-words : Matched w body kids groups → ((i : ℕ) → i < 16 → There w body i → countAt w body i < sign) → CountsHold w sign body kids
+  in-words : Matched w body kids groups → NoneNegative → CountsHold w sign body kids
   unfolding groups sumFrom
   in-words m n =
       record {
@@ -182,14 +185,14 @@ module _ {w sign : ℕ} {body : List ℕ} (kids : List Rec) (k : Counted w sign 
       (λ l. omega (arith, h .count-0), (λ l. omega (arith, h .counts-1-to-7), (λ l. omega (arith, h .counts-8-to-14 0 (lit< tt)), (λ l. omega (arith, h .counts-8-to-14 1 (lit< tt)), (λ l. omega (arith, h .counts-8-to-14 2 (lit< tt)), (λ l. omega (arith, h .counts-8-to-14 3 (lit< tt)), (λ l. omega (arith, h .counts-8-to-14 4 (lit< tt)), (λ l. omega (arith, h .counts-8-to-14 5 (lit< tt)), (λ l. omega (arith, h .counts-8-to-14 6 (lit< tt)), (λ l. omega (arith, h .count-15 l), tt))))))))))
 
   -- a count that is not there is 0, and so not negative
-  last-low : ((i : ℕ) → i < 16 → There w body i → countAt w body i < sign) → 2 * countAt w body 15 < span w
+  last-low : NoneNegative → 2 * countAt w body 15 < span w
   last-low h = by (k .sixteenth)
     where
       by : (w * 16 ≤ length body) ⊎ (length body ≤ w * 15) → 2 * countAt w body 15 < span w
       by (inl l) = omega (arith, h 15 (lit< tt) l, k .sign-is)
       by (inr l) = omega (arith, count-absent w body 15 l, k .sign-is, k .signed)
 
-  each-low : ((i : ℕ) → i < 16 → There w body i → countAt w body i < sign) → (j : ℕ) → j < 16 → 2 * countAt w body j < span w
+  each-low : NoneNegative → (j : ℕ) → j < 16 → 2 * countAt w body j < span w
   each-low h j l =
       elim (decLe 15 j) [
         | yes g ↦ let same : j ≡ 15 = omega arith in rw same (last-low h)

@@ -7,6 +7,7 @@ ghost use Prim.Native.Nat.{_≤_, _<_};
 ghost use Rattle.numbers.specs.Little.{little, span};
 ghost use Rattle.docinfo.specs.Widths.{countBytes, formOf};
 
+// The width of a count.
 pub enum Width {
     Bits16,
     Bits32,
