@@ -127,7 +127,7 @@ fn sum_counts(body: &[u8], width: Width, first: usize, many: usize) -> usize
     sum
 }
 
-// Whether a group's counts sum to the number of children with its tag among the records from `behind` on, if they are all there.
+// Whether a group's counts, where all of them are there, sum to the number of children with its tag among the records from `behind` on.
 fn is_matched(s: &[u8], body: &[u8], width: Width, behind: Offset, g: Group) -> bool
     requires { ⌜ g .first + g .many ≤ 16 ⌝ }
     ensures { λ r. ⌜ r ≡ matched (countBytes width) (now (body .entry)) (children 1 (readFrom 1 0 (drop (behind .0) (now (s .entry))) .recs)) g ⌝ }
