@@ -6,7 +6,7 @@ use native.Mathlib.Nat.{lt-of-not-le, add-assoc}
 use mathlib.Core.Path.{_≡_, refl, sym, ap, ap₂, _∙_, subst}
 use mathlib.Core.Logic.{inl, inr}
 use mathlib.Core.Bool.{Bool, true, false, cond, not}
-use mathlib.Core.Option.{none, some}
+use mathlib.Core.Option.{Option, none, some}
 use mathlib.Core.List.{List, [], _∷_, _++_, append-assoc}
 use lib.Dec.{T, ltb, eqb, nltb→le, eqb→eq, T-not, eqb-refl}
 use lib.ListN.{length, take, drop, length-append, length-drop, take-append-drop}
@@ -16,7 +16,10 @@ use Rattle.numbers.specs.Little.{little, bytesOf, Bytes, span}
 use Rattle.numbers.proofs.LittleLaws.{bytes-drop, little-small, length-bytesOf, little-bytesOf, bytesOf-little, part-rest}
 use Rattle.records.specs.Records.{Rec, headerWord, leadOf, headerOf, encodeOne, encode, size, RecordObeys, Lawful, Encodes}
 use Rattle.records.specs.Reading.{Stands, whole, fault, guard, bodyAt, longAt, wordAt, standsAt, frontOf, offset, recordAt, aheadBy, aheadOf, Read, onto, readFrom}
+use Rattle.records.specs.Answers.{refusal, further}
 use Rattle.records.specs.declared.fault.Fault.{Fault}
+use Rattle.records.specs.declared.fault.Fault.the-variants as F
+use Rattle.records.specs.declared.fault.Refusal.{Refusal}
 use Rattle.records.specs.declared.header.Header.{Header}
 use Rattle.records.specs.declared.header.Front.the-variants as H
 use Rattle.records.specs.declared.header.Record.{Record}
@@ -174,10 +177,10 @@ abbrev FoundIf : ℕ → List ℕ → Stands → Type 0
 FoundIf cap s (fault f) = Unit {0}
 FoundIf cap s (whole r) = Found cap s r
 
-by-guard : (P : Stands → Type 0) (b : Bool) (f : Fault) (x : Stands) → ((g : Fault) → P (fault g)) → (T (not b) → P x) → P (guard b f x)
+by-guard : (P : Stands → Type 0) (b : Bool) (f : Fault) (p : ℕ) (x : Stands) → P (fault (refusal f p)) → (T (not b) → P x) → P (guard b f p x)
 unfolding guard
-by-guard P true f x stopped passed = stopped f
-by-guard P false f x stopped passed = passed tt
+by-guard P true f p x stopped passed = stopped
+by-guard P false f p x stopped passed = passed tt
 
 by-cond : (P : Stands → Type 0) (b : Bool) (x y : Stands) → (T b → P x) → (T (not b) → P y) → P (cond b x y)
 by-cond P true x y f g = f tt
@@ -242,22 +245,22 @@ module _ (cap : ℕ) (s : List ℕ) (bs : Bytes s) where
   unfolding standsAt wordAt longAt bodyAt
   found-if =
       let P = FoundIf cap s in
-      by-guard P (ltb (length s) 4) _ _ (λ _. tt)
+      by-guard P (ltb (length s) 4) _ _ _ tt
       (λ _.
-      by-guard P (ltb (w % 1024) 16) _ _ (λ _. tt)
+      by-guard P (ltb (w % 1024) 16) _ _ _ tt
       (λ t.
-      by-guard P (ltb cap (w / 1024 % 1024)) _ _ (λ _. tt)
+      by-guard P (ltb cap (w / 1024 % 1024)) _ _ _ tt
       (λ l.
       by-cond P (eqb (w / 1048576) 4095) _ _
       (λ z.
-      by-guard P (ltb (length s) 8) _ _ (λ _. tt)
+      by-guard P (ltb (length s) 8) _ _ _ tt
       (λ _.
-      by-guard P (ltb (little 4 (drop 4 s)) 4095) _ _ (λ _. tt)
+      by-guard P (ltb (little 4 (drop 4 s)) 4095) _ _ _ tt
       (λ h.
-      by-guard P (ltb (length s) (8 + little 4 (drop 4 s))) _ _ (λ _. tt)
+      by-guard P (ltb (length s) (8 + little 4 (drop 4 s))) _ _ _ tt
       (λ k. found-long (little 4 (drop 4 s)) refl (nltb→le _ _ t) (nltb→le _ _ l) (eqb→eq _ _ z) (nltb→le _ _ h) (nltb→le _ _ k)))))
       (λ z.
-      by-guard P (ltb (length s) (4 + w / 1048576)) _ _ (λ _. tt)
+      by-guard P (ltb (length s) (4 + w / 1048576)) _ _ _ tt
       (λ k. found-short (nltb→le _ _ t) (nltb→le _ _ l) (λ e. T-not (eqb (w / 1048576) 4095) z (subst (λ (m : ℕ). T (eqb (w / 1048576) m)) e (eqb-refl (w / 1048576)))) (nltb→le _ _ k))))))
 
   pub found : (r : Rec) → standsAt cap s ≡ whole r → Found cap s r
@@ -276,7 +279,7 @@ unfolding readFrom
 read-end cap [] e = refl
 read-end cap (x ∷ s) e = absurd (omega arith)
 
-pub read-stop : (cap : ℕ) (s : List ℕ) (f : Fault) → 0 < length s → standsAt cap s ≡ fault f → readFrom cap 0 s ≡ record { recs = []; stop = some f }
+pub read-stop : (cap : ℕ) (s : List ℕ) (f : Refusal) → 0 < length s → standsAt cap s ≡ fault f → readFrom cap 0 s ≡ record { recs = []; stop = some f }
 unfolding readFrom
 read-stop cap [] f h e = absurd (omega arith)
 read-stop cap (x ∷ s) f h e = rw (e, readFrom)
@@ -301,7 +304,7 @@ read-encode cap (r ∷ rs) l =
 
 -- ---- encoding what was read: n bounds the length
 
-unstopped : (f : Fault) → some f ≡ none → ⊥
+unstopped : (f : Refusal) → some f ≡ none → ⊥
 unstopped f e = let z : _≡_ {A = ℕ} 0 1 = cc in omega arith
 
 -- at a record, where the rest behind it does
@@ -349,20 +352,73 @@ encode-read-within (suc n) cap s h bs e =
 pub encode-read : (cap : ℕ) (s : List ℕ) → Bytes s → readFrom cap 0 s .stop ≡ none → Encodes cap s (readFrom cap 0 s .recs)
 encode-read cap s bs e = encode-read-within (length s) cap s (omega arith) bs e
 
--- ---- the records that are read lie within the stream: n bounds its length
+-- ---- the records that are read, and the fault behind them, lie within the stream: n bounds its length
+
+-- how far behind the records a fault is
+abbrev pub beyond : Option Refusal → ℕ
+beyond none = 0
+beyond (some f) = f .place .0
+
+-- the bytes of the records that were read, up to the fault
+abbrev pub reach : Read → ℕ
+reach x = length (encode (x .recs)) + beyond (x .stop)
+
+-- the faults at the front of s, each with its place
+pub data AtFront (s : List ℕ) : Refusal → Type 0 where
+  cut : AtFront s (refusal F.HeaderCut (length s))
+  reserved : AtFront s (refusal F.TagOutside 0)
+  deep : AtFront s (refusal F.LevelRule 0)
+  small : 4 ≤ length s → AtFront s (refusal F.LongLengthTooSmall 4)
+  past : AtFront s (refusal F.BodyPastEnd 0)
+
+abbrev AtFrontIf : List ℕ → Stands → Type 0
+AtFrontIf s (fault f) = AtFront s f
+AtFrontIf s (whole r) = Unit {0}
+
+at-front-if : (cap : ℕ) (s : List ℕ) → AtFrontIf s (standsAt cap s)
+unfolding standsAt wordAt longAt bodyAt
+at-front-if cap s =
+    let P = AtFrontIf s in
+    by-guard P (ltb (length s) 4) _ _ _ cut
+    (λ _.
+    by-guard P (ltb (little 4 s % 1024) 16) _ _ _ reserved
+    (λ _.
+    by-guard P (ltb cap (little 4 s / 1024 % 1024)) _ _ _ deep
+    (λ _.
+    by-cond P (eqb (little 4 s / 1048576) 4095) _ _
+    (λ _.
+    by-guard P (ltb (length s) 8) _ _ _ cut
+    (λ h.
+    by-guard P (ltb (little 4 (drop 4 s)) 4095) _ _ _ (small (omega (arith, nltb→le (length s) 8 h)))
+    (λ _. by-guard P (ltb (length s) (8 + little 4 (drop 4 s))) _ _ _ past (λ _. tt))))
+    (λ _. by-guard P (ltb (length s) (4 + little 4 s / 1048576)) _ _ _ past (λ _. tt)))))
+
+pub at-front : (cap : ℕ) (s : List ℕ) (f : Refusal) → standsAt cap s ≡ fault f → AtFront s f
+at-front cap s f e = subst (AtFrontIf s) e (at-front-if cap s)
+
+-- at one of its bytes, or at its end
+front-inside : (s : List ℕ) (f : Refusal) → AtFront s f → f .place .0 ≤ length s
+front-inside s f cut = omega arith
+front-inside s f reserved = omega arith
+front-inside s f deep = omega arith
+front-inside s f (small h) = h
+front-inside s f past = omega arith
+
+fault-inside : (cap : ℕ) (s : List ℕ) (f : Refusal) → standsAt cap s ≡ fault f → f .place .0 ≤ length s
+fault-inside cap s f e = front-inside s f (at-front cap s f e)
 
 prefix-by : (cap : ℕ) (s : List ℕ) (a : Stands) → standsAt cap s ≡ a → Bytes s → 0 < length s
-    → ((r : Rec) → standsAt cap s ≡ whole r → length (encode (readFrom (r .level + 1) 0 (drop (size r) s) .recs)) ≤ length (drop (size r) s))
-    → length (encode (readFrom cap 0 s .recs)) ≤ length s
+    → ((r : Rec) → standsAt cap s ≡ whole r → reach (readFrom (r .level + 1) 0 (drop (size r) s)) ≤ length (drop (size r) s))
+    → reach (readFrom cap 0 s) ≤ length s
 unfolding encode onto
-prefix-by cap s (fault f) q bs h rest = rw (read-stop cap s f h q) (omega arith)
+prefix-by cap s (fault f) q bs h rest = rw (read-stop cap s f h q) (omega (arith, fault-inside cap s f q))
 prefix-by cap s (whole r) q bs h rest =
     let k = found cap s bs r q in
     let ih = rest r q in
     rw (read-next cap s r h q)
     (omega (arith, k .inside, length-drop (size r) s, encode-length r (encode (readFrom (r .level + 1) 0 (drop (size r) s) .recs))))
 
-prefix-within : (n cap : ℕ) (s : List ℕ) → length s ≤ n → Bytes s → length (encode (readFrom cap 0 s .recs)) ≤ length s
+prefix-within : (n cap : ℕ) (s : List ℕ) → length s ≤ n → Bytes s → reach (readFrom cap 0 s) ≤ length s
 unfolding encode
 prefix-within zero cap s h bs = rw (read-end cap s (omega arith)) (omega arith)
 prefix-within (suc n) cap s h bs =
@@ -374,7 +430,7 @@ prefix-within (suc n) cap s h bs =
           (λ r q. prefix-within n (r .level + 1) (drop (size r) s) (omega (arith, length-drop (size r) s, size-least r)) (bytes-drop (size r) s bs))
     ]
 
-pub read-prefix : (cap : ℕ) (s : List ℕ) → Bytes s → length (encode (readFrom cap 0 s .recs)) ≤ length s
+pub read-prefix : (cap : ℕ) (s : List ℕ) → Bytes s → reach (readFrom cap 0 s) ≤ length s
 read-prefix cap s bs = prefix-within (length s) cap s (omega arith) bs
 
 -- ---- a header that was read from the part behind `at`
@@ -398,15 +454,21 @@ module _ (s : List ℕ) (at cap : ℕ) (h : at < length s) where
       rw (lt-ltb at (length s) h)
       (front-by (standsAt cap (drop at s)) k refl (ap (λ (l : List ℕ). frontOf (standsAt cap l)) (sym (part-rest s at)) ∙ e))
 
-  refused-by : (a : Stands) (f : Fault) → frontOf a ≡ H.Refused f → N.Refused f ≡ aheadBy at a
-  refused-by (fault g) f e = cc
-  refused-by (whole r) f e = absurd (let z : _≡_ {A = ℕ} 0 1 = cc in omega arith)
+  -- the fault that it is
+  stands-refused : (a : Stands) (f : Refusal) → frontOf a ≡ H.Refused f → a ≡ fault f
+  stands-refused (fault g) f e = ap fault cc
+  stands-refused (whole r) f e = absurd (let z : _≡_ {A = ℕ} 0 1 = cc in omega arith)
 
-  pub ahead-refused : (f : Fault) → frontOf (standsAt cap (take (length s - at) (drop at s))) ≡ H.Refused f → N.Refused f ≡ aheadOf cap s at
-  unfolding aheadOf
-  ahead-refused f e =
-      rw (lt-ltb at (length s) h)
-      (refused-by (standsAt cap (drop at s)) f (ap (λ (l : List ℕ). frontOf (standsAt cap l)) (sym (part-rest s at)) ∙ e))
+  module _ (f : Refusal) (e : frontOf (standsAt cap (take (length s - at) (drop at s))) ≡ H.Refused f) where
+    refused : standsAt cap (drop at s) ≡ fault f
+    refused = stands-refused (standsAt cap (drop at s)) f (ap (λ (l : List ℕ). frontOf (standsAt cap l)) (sym (part-rest s at)) ∙ e)
+
+    pub ahead-refused : N.Refused (further at f) ≡ aheadOf cap s at
+    unfolding aheadOf
+    ahead-refused = rw (lt-ltb at (length s) h, refused)
+
+    pub ahead-inside : at + f .place .0 ≤ length s
+    ahead-inside = omega (arith, h, length-drop at s, fault-inside cap (drop at s) f refused)
 
 pub ahead-end : (s : List ℕ) (at cap : ℕ) → length s ≤ at → N.End ≡ aheadOf cap s at
 unfolding aheadOf
@@ -442,6 +504,12 @@ pub record Here (s : List ℕ) (at cap : ℕ) (r : Record) : Type 0 where
   pub bytes : encodeOne rec ≡ take (size rec) (drop at s)
   pub body-there : take (r .len) (drop (r .body .0) s) ≡ rec .body
   pub next : readFrom cap 0 (drop at s) ≡ onto rec (readFrom (rec .level + 1) 0 (drop (at + size rec) s))
+
+-- a reading from `at` on that stops at once, with the fault f of the stream
+pub record Stops (x : Read) (at : ℕ) (f : Refusal) : Type 0 where
+  pub found : Refusal
+  pub is : further at found ≡ f
+  pub reads : x ≡ record { recs = []; stop = some found }
 
 module _ (s : List ℕ) (at cap : ℕ) where
   some-left : at < length s → 0 < length (drop at s)
@@ -480,14 +548,14 @@ module _ (s : List ℕ) (at cap : ℕ) where
     unfolding aheadOf
     here r e = here-by (ltb at (length s)) (standsAt cap (drop at s)) r refl refl e
 
-  -- and where it found none
-  stops-by : (b : Bool) (a : Stands) (f : Fault) → ltb at (length s) ≡ b → standsAt cap (drop at s) ≡ a → cond b (aheadBy at a) N.End ≡ N.Refused f
-      → readFrom cap 0 (drop at s) ≡ record { recs = []; stop = some f }
+  -- and where it found none: a fault, with its place in the stream
+  stops-by : (b : Bool) (a : Stands) (f : Refusal) → ltb at (length s) ≡ b → standsAt cap (drop at s) ≡ a → cond b (aheadBy at a) N.End ≡ N.Refused f
+      → Stops (readFrom cap 0 (drop at s)) at f
   stops-by false a f t q e = absurd (let z : _≡_ {A = ℕ} 0 1 = cc in omega arith)
   stops-by true (whole k) f t q e = absurd (let z : _≡_ {A = ℕ} 0 1 = cc in omega arith)
-  stops-by true (fault g) f t q e = let same : g ≡ f = cc in read-stop cap (drop at s) g (some-left (ltb-true at (length s) t)) q ∙ rw same
+  stops-by true (fault g) f t q e = record { found = g; is = cc; reads = read-stop cap (drop at s) g (some-left (ltb-true at (length s) t)) q }
 
-  pub stops-here : (f : Fault) → aheadOf cap s at ≡ N.Refused f → readFrom cap 0 (drop at s) ≡ record { recs = []; stop = some f }
+  pub stops-here : (f : Refusal) → aheadOf cap s at ≡ N.Refused f → Stops (readFrom cap 0 (drop at s)) at f
   unfolding aheadOf
   stops-here f e = stops-by (ltb at (length s)) (standsAt cap (drop at s)) f refl refl e
 
@@ -514,5 +582,5 @@ no-record at r (inr z) = let y : _≡_ {A = ℕ} 0 2 = z in omega arith
 pub none-here : (s : List ℕ) (at cap : ℕ) (x : Ahead) → x ≡ aheadOf cap s at → NoRecord x → readFrom cap 0 (drop at s) .recs ≡ []
 none-here s at cap (N.Record r) e (inl z) = absurd (let y : _≡_ {A = ℕ} 0 1 = z in omega arith)
 none-here s at cap (N.Record r) e (inr z) = absurd (let y : _≡_ {A = ℕ} 0 2 = z in omega arith)
-none-here s at cap (N.Refused f) e n = ap (λ (y : Read). y .recs) (stops-here s at cap f (sym e))
+none-here s at cap (N.Refused f) e n = ap (λ (y : Read). y .recs) (stops-here s at cap f (sym e) .reads)
 none-here s at cap N.End e n = ap (λ (y : Read). y .recs) (ends-here s at cap (sym e))
