@@ -17,7 +17,8 @@ use Rattle.records.specs.declared.fault.Fault.the-variants as F
 use Rattle.records.specs.declared.fault.Refusal.{Refusal}
 use Rattle.records.specs.declared.fault.Answer.{Answer}
 use Rattle.records.specs.declared.fault.Answer.the-variants as A
-use Rattle.records.proofs.ReadingLaws.{AtFront, cut, reserved, deep, small, past, at-front}
+use Rattle.records.specs.Stopping.{AtFront, cut, long-cut, small, past, reserved, deep}
+use Rattle.records.proofs.ReadingLaws.{at-front}
 use Rattle.paragraph.specs.View.{view}
 use Rattle.paragraph.specs.declared.finding.Which.{Which}
 use Rattle.paragraph.specs.declared.finding.Finding.{Finding}
@@ -32,11 +33,12 @@ use Rattle.acceptance.proofs.SectionReader.{room-enough}
 -- ---- the numbers of reading are 1 to 6
 
 early : (s : List ℕ) (f : Refusal) → AtFront s f → numberOf (f .fault) ≤ 6
-early s f cut = omega arith
-early s f reserved = omega arith
-early s f deep = omega arith
-early s f (small h) = omega arith
-early s f past = omega arith
+early s f (cut h) = omega arith
+early s f (long-cut z h) = omega arith
+early s f (small k h) = omega arith
+early s f (past lead n h) = omega arith
+early s f (reserved h) = omega arith
+early s f (deep cap h) = omega arith
 
 abbrev EarlyStop : Option Refusal → Type 0
 EarlyStop none = Unit {0}

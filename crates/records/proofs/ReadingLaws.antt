@@ -7,8 +7,8 @@ use mathlib.Core.Path.{_≡_, refl, sym, ap, ap₂, _∙_, subst}
 use mathlib.Core.Logic.{inl, inr}
 use mathlib.Core.Bool.{Bool, true, false, cond, not}
 use mathlib.Core.Option.{Option, none, some}
-use mathlib.Core.List.{List, [], _∷_, _++_, append-assoc}
-use lib.Dec.{T, ltb, eqb, nltb→le, eqb→eq, T-not, eqb-refl}
+use mathlib.Core.List.{List, [], _∷_, _++_, append-assoc, append-nil}
+use lib.Dec.{T, ltb, eqb, ltb→lt, nltb→le, eqb→eq, T-not, eqb-refl}
 use lib.ListN.{length, take, drop, length-append, length-drop, take-append-drop}
 use lib.Seq.{take-at, drop-at, take-add, drop-drop, length-take-le}
 use borrow.Author.Tests.{ltb-true, ltb-false, lt-ltb, le-ltb, ne-eqb}
@@ -17,8 +17,8 @@ use Rattle.numbers.proofs.LittleLaws.{bytes-drop, little-small, length-bytesOf,
 use Rattle.records.specs.Records.{Rec, headerWord, leadOf, headerOf, encodeOne, encode, size, RecordObeys, Lawful, Encodes}
 use Rattle.records.specs.Reading.{Stands, whole, fault, guard, bodyAt, longAt, wordAt, standsAt, frontOf, offset, recordAt, aheadBy, aheadOf, Read, onto, readFrom}
 use Rattle.records.specs.Answers.{refusal, further}
+use Rattle.records.specs.Stopping.{AtFront, cut, long-cut, small, past, reserved, deep}
 use Rattle.records.specs.declared.fault.Fault.{Fault}
-use Rattle.records.specs.declared.fault.Fault.the-variants as F
 use Rattle.records.specs.declared.fault.Refusal.{Refusal}
 use Rattle.records.specs.declared.header.Header.{Header}
 use Rattle.records.specs.declared.header.Front.the-variants as H
@@ -177,9 +177,9 @@ abbrev FoundIf : ℕ → List ℕ → Stands → Type 0
 FoundIf cap s (fault f) = Unit {0}
 FoundIf cap s (whole r) = Found cap s r
 
-by-guard : (P : Stands → Type 0) (b : Bool) (f : Fault) (p : ℕ) (x : Stands) → P (fault (refusal f p)) → (T (not b) → P x) → P (guard b f p x)
+by-guard : (P : Stands → Type 0) (b : Bool) (f : Fault) (p : ℕ) (x : Stands) → (T b → P (fault (refusal f p))) → (T (not b) → P x) → P (guard b f p x)
 unfolding guard
-by-guard P true f p x stopped passed = stopped
+by-guard P true f p x stopped passed = stopped tt
 by-guard P false f p x stopped passed = passed tt
 
 by-cond : (P : Stands → Type 0) (b : Bool) (x y : Stands) → (T b → P x) → (T (not b) → P y) → P (cond b x y)
@@ -245,22 +245,22 @@ module _ (cap : ℕ) (s : List ℕ) (bs : Bytes s) where
   unfolding standsAt wordAt longAt bodyAt
   found-if =
       let P = FoundIf cap s in
-      by-guard P (ltb (length s) 4) _ _ _ tt
+      by-guard P (ltb (length s) 4) _ _ _ (λ _. tt)
       (λ _.
-      by-guard P (ltb (w % 1024) 16) _ _ _ tt
+      by-guard P (ltb (w % 1024) 16) _ _ _ (λ _. tt)
       (λ t.
-      by-guard P (ltb cap (w / 1024 % 1024)) _ _ _ tt
+      by-guard P (ltb cap (w / 1024 % 1024)) _ _ _ (λ _. tt)
       (λ l.
       by-cond P (eqb (w / 1048576) 4095) _ _
       (λ z.
-      by-guard P (ltb (length s) 8) _ _ _ tt
+      by-guard P (ltb (length s) 8) _ _ _ (λ _. tt)
       (λ _.
-      by-guard P (ltb (little 4 (drop 4 s)) 4095) _ _ _ tt
+      by-guard P (ltb (little 4 (drop 4 s)) 4095) _ _ _ (λ _. tt)
       (λ h.
-      by-guard P (ltb (length s) (8 + little 4 (drop 4 s))) _ _ _ tt
+      by-guard P (ltb (length s) (8 + little 4 (drop 4 s))) _ _ _ (λ _. tt)
       (λ k. found-long (little 4 (drop 4 s)) refl (nltb→le _ _ t) (nltb→le _ _ l) (eqb→eq _ _ z) (nltb→le _ _ h) (nltb→le _ _ k)))))
       (λ z.
-      by-guard P (ltb (length s) (4 + w / 1048576)) _ _ _ tt
+      by-guard P (ltb (length s) (4 + w / 1048576)) _ _ _ (λ _. tt)
       (λ k. found-short (nltb→le _ _ t) (nltb→le _ _ l) (λ e. T-not (eqb (w / 1048576) 4095) z (subst (λ (m : ℕ). T (eqb (w / 1048576) m)) e (eqb-refl (w / 1048576)))) (nltb→le _ _ k))))))
 
   pub found : (r : Rec) → standsAt cap s ≡ whole r → Found cap s r
@@ -302,74 +302,7 @@ read-encode cap (r ∷ rs) l =
     ∙ ap (λ (s : List ℕ). onto r (readFrom (r .level + 1) 0 s)) (drop-at (encodeOne r) (encode rs) (size r) (length-encodeOne r))
     ∙ ap (onto r) (read-encode (r .level + 1) rs (l .1))
 
--- ---- encoding what was read: n bounds the length
-
-unstopped : (f : Refusal) → some f ≡ none → ⊥
-unstopped f e = let z : _≡_ {A = ℕ} 0 1 = cc in omega arith
-
--- at a record, where the rest behind it does
-encodes-next : (cap : ℕ) (s : List ℕ) (r : Rec) → Bytes s → 0 < length s → standsAt cap s ≡ whole r
-    → Encodes (r .level + 1) (drop (size r) s) (readFrom (r .level + 1) 0 (drop (size r) s) .recs) → Encodes cap s (readFrom cap 0 s .recs)
-unfolding encode onto
-encodes-next cap s r bs h q rest =
-    let k = found cap s bs r q in
-    rw (read-next cap s r h q)
-    (record {
-      lawful = (k .obeys, rest .lawful);
-      stream = ap₂ (λ (a b : List ℕ). a ++ b) (k .bytes) (rest .stream) ∙ take-append-drop (size r) s;
-    })
-
-stop-next : (cap : ℕ) (s : List ℕ) (r : Rec) → 0 < length s → standsAt cap s ≡ whole r
-    → readFrom cap 0 s .stop ≡ readFrom (r .level + 1) 0 (drop (size r) s) .stop
-unfolding onto
-stop-next cap s r h q = ap (λ (y : Read). y .stop) (read-next cap s r h q)
-
-encodes-end : (cap : ℕ) (s : List ℕ) → length s ≤ 0 → Encodes cap s (readFrom cap 0 s .recs)
-unfolding encode
-encodes-end cap [] h = rw (read-end cap [] refl) (record { lawful = tt; stream = refl })
-encodes-end cap (x ∷ s) h = absurd (omega arith)
-
--- at what stands at the front, where the rest behind a record does
-encodes-by : (cap : ℕ) (s : List ℕ) (a : Stands) → standsAt cap s ≡ a → Bytes s → 0 < length s → readFrom cap 0 s .stop ≡ none
-    → ((r : Rec) → standsAt cap s ≡ whole r → Encodes (r .level + 1) (drop (size r) s) (readFrom (r .level + 1) 0 (drop (size r) s) .recs))
-    → Encodes cap s (readFrom cap 0 s .recs)
-encodes-by cap s (fault f) q bs h e rest = absurd (unstopped f (sym (ap (λ (y : Read). y .stop) (read-stop cap s f h q)) ∙ e))
-encodes-by cap s (whole r) q bs h e rest = encodes-next cap s r bs h q (rest r q)
-
-encode-read-within : (n cap : ℕ) (s : List ℕ) → length s ≤ n → Bytes s → readFrom cap 0 s .stop ≡ none → Encodes cap s (readFrom cap 0 s .recs)
-encode-read-within zero cap s h bs e = encodes-end cap s h
-encode-read-within (suc n) cap s h bs e =
-    elim (decLe (length s) 0) [
-      | yes g ↦ encodes-end cap s g
-      | no g ↦
-          let m : 0 < length s = lt-of-not-le g in
-          encodes-by cap s (standsAt cap s) refl bs m e
-          (λ r q.
-          encode-read-within n (r .level + 1) (drop (size r) s) (omega (arith, length-drop (size r) s, size-least r)) (bytes-drop (size r) s bs)
-          (sym (stop-next cap s r m q) ∙ e))
-    ]
-
-pub encode-read : (cap : ℕ) (s : List ℕ) → Bytes s → readFrom cap 0 s .stop ≡ none → Encodes cap s (readFrom cap 0 s .recs)
-encode-read cap s bs e = encode-read-within (length s) cap s (omega arith) bs e
-
--- ---- the records that are read, and the fault behind them, lie within the stream: n bounds its length
-
--- how far behind the records a fault is
-abbrev pub beyond : Option Refusal → ℕ
-beyond none = 0
-beyond (some f) = f .place .0
-
--- the bytes of the records that were read, up to the fault
-abbrev pub reach : Read → ℕ
-reach x = length (encode (x .recs)) + beyond (x .stop)
-
--- the faults at the front of s, each with its place
-pub data AtFront (s : List ℕ) : Refusal → Type 0 where
-  cut : AtFront s (refusal F.HeaderCut (length s))
-  reserved : AtFront s (refusal F.TagOutside 0)
-  deep : AtFront s (refusal F.LevelRule 0)
-  small : 4 ≤ length s → AtFront s (refusal F.LongLengthTooSmall 4)
-  past : AtFront s (refusal F.BodyPastEnd 0)
+-- ---- a fault at the front
 
 abbrev AtFrontIf : List ℕ → Stands → Type 0
 AtFrontIf s (fault f) = AtFront s f
@@ -379,59 +312,105 @@ at-front-if : (cap : ℕ) (s : List ℕ) → AtFrontIf s (standsAt cap s)
 unfolding standsAt wordAt longAt bodyAt
 at-front-if cap s =
     let P = AtFrontIf s in
-    by-guard P (ltb (length s) 4) _ _ _ cut
+    by-guard P (ltb (length s) 4) _ _ _ (λ h. cut (ltb→lt _ _ h))
     (λ _.
-    by-guard P (ltb (little 4 s % 1024) 16) _ _ _ reserved
+    by-guard P (ltb (little 4 s % 1024) 16) _ _ _ (λ h. reserved (ltb→lt _ _ h))
     (λ _.
-    by-guard P (ltb cap (little 4 s / 1024 % 1024)) _ _ _ deep
+    by-guard P (ltb cap (little 4 s / 1024 % 1024)) _ _ _ (λ h. deep cap (ltb→lt _ _ h))
     (λ _.
     by-cond P (eqb (little 4 s / 1048576) 4095) _ _
-    (λ _.
-    by-guard P (ltb (length s) 8) _ _ _ cut
-    (λ h.
-    by-guard P (ltb (little 4 (drop 4 s)) 4095) _ _ _ (small (omega (arith, nltb→le (length s) 8 h)))
-    (λ _. by-guard P (ltb (length s) (8 + little 4 (drop 4 s))) _ _ _ past (λ _. tt))))
-    (λ _. by-guard P (ltb (length s) (4 + little 4 s / 1048576)) _ _ _ past (λ _. tt)))))
+    (λ z.
+    by-guard P (ltb (length s) 8) _ _ _ (λ h. long-cut (eqb→eq _ _ z) (ltb→lt _ _ h))
+    (λ k.
+    by-guard P (ltb (little 4 (drop 4 s)) 4095) _ _ _ (λ h. small (nltb→le _ _ k) (ltb→lt _ _ h))
+    (λ _. by-guard P (ltb (length s) (8 + little 4 (drop 4 s))) _ _ _ (λ h. past 8 (little 4 (drop 4 s)) (ltb→lt _ _ h)) (λ _. tt))))
+    (λ _. by-guard P (ltb (length s) (4 + little 4 s / 1048576)) _ _ _ (λ h. past 4 (little 4 s / 1048576) (ltb→lt _ _ h)) (λ _. tt)))))
 
 pub at-front : (cap : ℕ) (s : List ℕ) (f : Refusal) → standsAt cap s ≡ fault f → AtFront s f
 at-front cap s f e = subst (AtFrontIf s) e (at-front-if cap s)
 
 -- at one of its bytes, or at its end
-front-inside : (s : List ℕ) (f : Refusal) → AtFront s f → f .place .0 ≤ length s
-front-inside s f cut = omega arith
-front-inside s f reserved = omega arith
-front-inside s f deep = omega arith
-front-inside s f (small h) = h
-front-inside s f past = omega arith
+pub front-inside : (s : List ℕ) (f : Refusal) → AtFront s f → f .place .0 ≤ length s
+front-inside s f (cut h) = omega arith
+front-inside s f (long-cut z h) = omega arith
+front-inside s f (small k h) = omega arith
+front-inside s f (past lead n h) = omega arith
+front-inside s f (reserved h) = omega arith
+front-inside s f (deep cap h) = omega arith
 
-fault-inside : (cap : ℕ) (s : List ℕ) (f : Refusal) → standsAt cap s ≡ fault f → f .place .0 ≤ length s
-fault-inside cap s f e = front-inside s f (at-front cap s f e)
+-- ---- what reading comes to: n bounds the length
 
-prefix-by : (cap : ℕ) (s : List ℕ) (a : Stands) → standsAt cap s ≡ a → Bytes s → 0 < length s
-    → ((r : Rec) → standsAt cap s ≡ whole r → reach (readFrom (r .level + 1) 0 (drop (size r) s)) ≤ length (drop (size r) s))
-    → reach (readFrom cap 0 s) ≤ length s
-unfolding encode onto
-prefix-by cap s (fault f) q bs h rest = rw (read-stop cap s f h q) (omega (arith, fault-inside cap s f q))
-prefix-by cap s (whole r) q bs h rest =
-    let k = found cap s bs r q in
-    let ih = rest r q in
-    rw (read-next cap s r h q)
-    (omega (arith, k .inside, length-drop (size r) s, encode-length r (encode (readFrom (r .level + 1) 0 (drop (size r) s) .recs))))
+-- what is left where reading came to its end
+abbrev pub Left : List ℕ → Option Refusal → Type 0
+Left rest none = rest ≡ []
+Left rest (some f) = AtFront rest f
 
-prefix-within : (n cap : ℕ) (s : List ℕ) → length s ≤ n → Bytes s → reach (readFrom cap 0 s) ≤ length s
+-- what reading a stream came to, where the first level is at most cap
+pub record Reads (cap : ℕ) (s : List ℕ) (x : Read) : Type 0 where
+  pub lawful : Lawful cap (x .recs)
+  pub rest : List ℕ
+  pub stream : encode (x .recs) ++ rest ≡ s
+  pub left : Left rest (x .stop)
+
+reads-end : (cap : ℕ) (s : List ℕ) → length s ≤ 0 → Reads cap s (readFrom cap 0 s)
 unfolding encode
-prefix-within zero cap s h bs = rw (read-end cap s (omega arith)) (omega arith)
-prefix-within (suc n) cap s h bs =
+reads-end cap [] h = rw (read-end cap [] refl) (record { lawful = tt; rest = []; stream = refl; left = refl })
+reads-end cap (x ∷ s) h = absurd (omega arith)
+
+-- at what stands at the front, where the rest behind a record does
+reads-by : (cap : ℕ) (s : List ℕ) (a : Stands) → standsAt cap s ≡ a → Bytes s → 0 < length s
+    → ((r : Rec) → standsAt cap s ≡ whole r → Reads (r .level + 1) (drop (size r) s) (readFrom (r .level + 1) 0 (drop (size r) s)))
+    → Reads cap s (readFrom cap 0 s)
+unfolding encode onto
+reads-by cap s (fault f) q bs h further = rw (read-stop cap s f h q) (record { lawful = tt; rest = s; stream = refl; left = at-front cap s f q })
+reads-by cap s (whole r) q bs h further =
+    let k = found cap s bs r q in
+    let ih = further r q in
+    rw (read-next cap s r h q)
+    (record {
+      lawful = (k .obeys, ih .lawful);
+      rest = ih .rest;
+      stream =
+          append-assoc (encodeOne r) (encode (readFrom (r .level + 1) 0 (drop (size r) s) .recs)) (ih .rest)
+          ∙ ap₂ (λ (a b : List ℕ). a ++ b) (k .bytes) (ih .stream) ∙ take-append-drop (size r) s;
+      left = ih .left;
+    })
+
+reads-within : (n cap : ℕ) (s : List ℕ) → length s ≤ n → Bytes s → Reads cap s (readFrom cap 0 s)
+reads-within zero cap s h bs = reads-end cap s h
+reads-within (suc n) cap s h bs =
     elim (decLe (length s) 0) [
-      | yes g ↦ rw (read-end cap s (omega arith)) (omega arith)
+      | yes g ↦ reads-end cap s g
       | no g ↦
-          let m : 0 < length s = lt-of-not-le g in
-          prefix-by cap s (standsAt cap s) refl bs m
-          (λ r q. prefix-within n (r .level + 1) (drop (size r) s) (omega (arith, length-drop (size r) s, size-least r)) (bytes-drop (size r) s bs))
+          reads-by cap s (standsAt cap s) refl bs (lt-of-not-le g)
+          (λ r q. reads-within n (r .level + 1) (drop (size r) s) (omega (arith, length-drop (size r) s, size-least r)) (bytes-drop (size r) s bs))
     ]
 
-pub read-prefix : (cap : ℕ) (s : List ℕ) → Bytes s → reach (readFrom cap 0 s) ≤ length s
-read-prefix cap s bs = prefix-within (length s) cap s (omega arith) bs
+pub reads : (cap : ℕ) (s : List ℕ) → Bytes s → Reads cap s (readFrom cap 0 s)
+reads cap s bs = reads-within (length s) cap s (omega arith) bs
+
+-- without a fault the stream is the encoding of the records
+pub encode-read : (cap : ℕ) (s : List ℕ) → Bytes s → readFrom cap 0 s .stop ≡ none → Encodes cap s (readFrom cap 0 s .recs)
+encode-read cap s bs e =
+    let k = reads cap s bs in
+    let none-left : k .rest ≡ [] = subst (Left (k .rest)) e (k .left) in
+    record { lawful = k .lawful; stream = sym (append-nil (encode (readFrom cap 0 s .recs))) ∙ ap (λ (l : List ℕ). encode (readFrom cap 0 s .recs) ++ l) (sym none-left) ∙ k .stream }
+
+-- how far behind the records a fault is
+abbrev pub beyond : Option Refusal → ℕ
+beyond none = 0
+beyond (some f) = f .place .0
+
+-- the records and the fault behind them lie within the stream
+pub read-prefix : (cap : ℕ) (s : List ℕ) → Bytes s → length (encode (readFrom cap 0 s .recs)) + beyond (readFrom cap 0 s .stop) ≤ length s
+read-prefix cap s bs =
+    let k = reads cap s bs in
+    let l : length (encode (readFrom cap 0 s .recs)) + length (k .rest) ≡ length s = sym (length-append (encode (readFrom cap 0 s .recs)) (k .rest)) ∙ ap length (k .stream) in
+    omega (arith, l, by (readFrom cap 0 s .stop) (k .rest) (k .left))
+  where
+    by : (o : Option Refusal) (rest : List ℕ) → Left rest o → beyond o ≤ length rest
+    by none rest h = omega arith
+    by (some f) rest h = front-inside rest f h
 
 -- ---- a header that was read from the part behind `at`
 
@@ -468,7 +447,7 @@ module _ (s : List ℕ) (at cap : ℕ) (h : at < length s) where
     ahead-refused = rw (lt-ltb at (length s) h, refused)
 
     pub ahead-inside : at + f .place .0 ≤ length s
-    ahead-inside = omega (arith, h, length-drop at s, fault-inside cap (drop at s) f refused)
+    ahead-inside = omega (arith, h, length-drop at s, front-inside (drop at s) f (at-front cap (drop at s) f refused))
 
 pub ahead-end : (s : List ℕ) (at cap : ℕ) → length s ≤ at → N.End ≡ aheadOf cap s at
 unfolding aheadOf
