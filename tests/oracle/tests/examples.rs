@@ -83,7 +83,7 @@ fn starts_of(stream: &[u8]) -> Vec<(u32, u32)> {
 #[test]
 fn empty_stream_and_three_bytes() {
     assert_eq!(read(&[], 0), Ok(vec![]));
-    assert_eq!(read(&[0x42, 0, 0], 9), refused(2, 0));
+    assert_eq!(read(&[0x42, 0, 0], 9), refused(2, 3));
     assert_eq!(check(&[]), Ok(0));
 }
 
@@ -101,8 +101,36 @@ fn body_of_4094_and_4095() {
     assert_eq!(record(20, 0, &[1; 4095]).len(), 4103);
     let mut long = record(20, 0, &[1; 4095]);
     long[4..8].copy_from_slice(&4094u32.to_le_bytes());
-    assert_eq!(read(&long, 1), refused(3, 0));
-    assert_eq!(read(&long[..7], 1), refused(2, 0));
+    assert_eq!(read(&long, 1), refused(3, 4));
+    assert_eq!(read(&long[..7], 1), refused(2, 7));
+}
+
+#[test]
+fn a_cut_header_is_named_by_the_streams_end() {
+    let before = record(20, 0, &[1; 9]);
+    for (start, level) in [(&[][..], 0), (&before, 1)] {
+        let long = header_of(20, level, 4095);
+        for left in 1..8 {
+            let stream = [start, &long[..left]].concat();
+            assert_eq!(read(&stream, 9), refused(2, stream.len()), "{left}");
+        }
+    }
+    let most = record(20, 0, &vec![0; LIMIT - 11]);
+    assert_eq!(read(&[most, vec![66, 0, 0]].concat(), 9), refused(2, LIMIT));
+}
+
+#[test]
+fn a_short_long_length_is_named_itself() {
+    let before = record(20, 0, &[1; 9]);
+    for (start, level, length) in [(&[][..], 0, 0u32), (&before, 1, 4094), (&before, 0, 1)] {
+        let mut header = header_of(20, level, 4095);
+        header[4..].copy_from_slice(&length.to_le_bytes());
+        let stream = [start, &header].concat();
+        assert_eq!(read(&stream, 9), refused(3, start.len() + 4));
+        // the stream ends behind the length, or bytes follow that would fit it
+        let longer = [stream, vec![0; 4094]].concat();
+        assert_eq!(read(&longer, 9), refused(3, start.len() + 4));
+    }
 }
 
 #[test]
