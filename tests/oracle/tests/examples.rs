@@ -298,6 +298,11 @@ fn counts(width: usize, counts: &[i64]) -> Vec<u8> {
     counts
         .flat_map(|count| count.to_le_bytes()[..width].to_vec())
         .collect()
+/// The refusal at the count with this index, in the body of record 17, which stands at 38.
+fn wrong_count(width: usize, nth: usize) -> Result<usize, Refusal> {
+    refused(18, 38 + width * nth)
+}
+
 }
 
 /// What DocInfo read says where the right counts are changed, in so many bytes.
@@ -325,17 +330,18 @@ fn lengths_of_the_counts() {
     for length in 28..=80 {
         let asked = match length {
             60 | 64 | 68 | 72 | 76 | 80 => Ok(5),
-            // eight counts of 32 bits are not sixteen of 16
-            32 => refused(18, 34),
+            // eight counts of 32 bits are not sixteen of 16: the last says no child with tag 92
+            32 => wrong_count(2, 15),
             _ => refused(17, 34),
         };
         assert_eq!(changed(4, length, &[]), asked, "{length}");
     }
     assert_eq!(changed(2, 32, &[]), Ok(5));
-    // sixteen counts of 16 bits are not those of 32
-    assert_eq!(changed(2, 64, &[]), refused(18, 34));
+    // sixteen counts of 16 bits are not those of 32: the second says 65,536
+    assert_eq!(changed(2, 64, &[]), wrong_count(4, 1));
     let long = |length| read_docinfo(&docinfo_with(&vec![0; length]), 5);
-    assert_eq!(long(4096), refused(18, 34));
+    // the body of a long record stands four bytes later
+    assert_eq!(long(4096), refused(18, 42 + 4));
     assert_eq!(long(4097), refused(17, 34));
 }
 
@@ -343,30 +349,51 @@ fn lengths_of_the_counts() {
 fn one_rule_over_the_width() {
     for (width, length, lowest) in [(2, 32, -32_768), (4, 64, -(1 << 31)), (4, 72, -(1 << 31))] {
         let say = |changes: &[(usize, i64)]| changed(width, length, changes);
-        for nth in 0..16 {
-            assert_eq!(say(&[(nth, RIGHT[nth] + 1)]), refused(18, 34), "{nth}");
-            assert_eq!(say(&[(nth, lowest)]), refused(18, 34), "{nth}");
+        for (nth, right) in RIGHT.into_iter().enumerate() {
+            // of the seven that are asked together the first is named
+            let first = if nth < 8 { nth.min(1) } else { nth };
+            let one_more = say(&[(nth, right + 1)]);
+            assert_eq!(one_more, wrong_count(width, first), "{nth}");
+            assert_eq!(say(&[(nth, lowest)]), wrong_count(width, nth), "{nth}");
         }
         // the sum alone is asked of the seven, but none of them is negative
         assert_eq!(say(&[(3, 0), (7, 1)]), Ok(5));
-        assert_eq!(say(&[(3, 2), (4, -1)]), refused(18, 34));
+        assert_eq!(say(&[(3, 2), (4, -1)]), wrong_count(width, 4));
         let highest = -lowest - 1;
         let kept = [(1, lowest), (2, highest), (3, 1), (4, 1)];
-        assert_eq!(say(&kept), refused(18, 34));
+        assert_eq!(say(&kept), wrong_count(width, 1));
         // a sum that is right only where it wraps
-        assert_eq!(say(&[(1, highest), (2, highest), (3, 3)]), refused(18, 34));
+        let wrapped = [(1, highest), (2, highest), (3, 3)];
+        assert_eq!(say(&wrapped), wrong_count(width, 1));
     }
     let quarter = 1 << 30;
     let four = [1, 2, 4, 5].map(|nth| (nth, quarter));
-    assert_eq!(changed(4, 60, &four), refused(18, 34));
-    assert_eq!(changed(4, 64, &[(8, 1 << 16)]), refused(18, 34));
+    assert_eq!(changed(4, 60, &four), wrong_count(4, 1));
+    assert_eq!(changed(4, 64, &[(8, 1 << 16)]), wrong_count(4, 8));
+}
+
+#[test]
+fn a_negative_count_is_named_before_any_group() {
+    for (width, length) in [(2, 32), (4, 64)] {
+        let say = |changes: &[(usize, i64)]| changed(width, length, changes);
+        let named = |nth| wrong_count(width, nth);
+        assert_eq!(say(&[(0, 1), (15, -1)]), named(15));
+        assert_eq!(say(&[(3, 9), (8, 1), (9, -1)]), named(9));
+        // within the seven too, where the first of them would be the group's
+        assert_eq!(say(&[(1, 9), (7, -1)]), named(7));
+        assert_eq!(say(&[(9, -1), (12, -1)]), named(9));
+        // of groups that do not match the first
+        assert_eq!(say(&[(7, 1), (8, 1), (15, 0)]), named(1));
+        assert_eq!(say(&[(14, 1), (15, 0)]), named(14));
+    }
+    assert_eq!(changed(4, 60, &[(0, 1), (14, -1)]), wrong_count(4, 14));
 }
 
 #[test]
 fn the_sixteenth_count_and_later_ones() {
     assert_eq!(changed(4, 60, &[(15, 7)]), Ok(5));
-    assert_eq!(changed(4, 60, &[(14, 1)]), refused(18, 34));
-    assert_eq!(changed(4, 64, &[(15, 0)]), refused(18, 34));
+    assert_eq!(changed(4, 60, &[(14, 1)]), wrong_count(4, 14));
+    assert_eq!(changed(4, 64, &[(15, 0)]), wrong_count(4, 15));
     assert_eq!(changed(4, 64, &[(16, -1)]), Ok(5));
     assert_eq!(changed(4, 72, &[(16, -(1 << 31)), (17, 9)]), Ok(5));
     // without the count, no child with tag 92 is right too
