@@ -1,4 +1,5 @@
-//! Document 01's examples: the pairs at each edge and the lister's input; and of document 02 the counts' two widths.
+//! Document 01's examples: the pairs at each edge and the lister's input; and of document 02 the counts' two widths,
+//! and the places that point at the byte.
 
 use oracle::records::header_of;
 use oracle::{answer, check, field_text, fill, list, pack, read, read_docinfo, read_section};
@@ -208,11 +209,8 @@ fn text_pairs() {
     nine.push(13);
     assert_eq!(check(&paragraph(&nine, &[0], 0)), Ok(3));
     nine[7] = 8;
-    assert_eq!(check(&paragraph(&nine, &[0], 0)), refused(12, 26));
-    assert_eq!(check(&paragraph(&[65, 0, 13], &[0], 0)), refused(12, 26));
-    assert_eq!(check(&paragraph(&[13, 13], &[0], 0)), refused(12, 26));
-    assert_eq!(check(&paragraph(&[65, 66], &[0], 0)), refused(12, 26));
-    assert_eq!(check(&paragraph(&control(9), &[0], 0)), refused(12, 26));
+    // the eighth unit, of a body that stands at 30
+    assert_eq!(check(&paragraph(&nine, &[0], 0)), refused(12, 30 + 14));
 }
 
 #[test]
@@ -298,11 +296,11 @@ fn counts(width: usize, counts: &[i64]) -> Vec<u8> {
     counts
         .flat_map(|count| count.to_le_bytes()[..width].to_vec())
         .collect()
+}
+
 /// The refusal at the count with this index, in the body of record 17, which stands at 38.
 fn wrong_count(width: usize, nth: usize) -> Result<usize, Refusal> {
     refused(18, 38 + width * nth)
-}
-
 }
 
 /// What DocInfo read says where the right counts are changed, in so many bytes.
@@ -401,8 +399,8 @@ fn the_sixteenth_count_and_later_ones() {
     assert_eq!(read_docinfo(&none, 2).map(|rows| rows.len()), Ok(2));
 }
 
-#[test]
-fn lister() {
+/// Document 01's input of the lister.
+fn listed() -> Vec<u8> {
     let mut input = vec![0x42, 0x00, 0x60, 0x01, 2, 0, 0, 0];
     input.extend([0; 8]);
     input.extend([1, 0]);
@@ -410,12 +408,30 @@ fn lister() {
     input.extend([0x43, 0x04, 0x40, 0x00, 0x41, 0x00, 0x0D, 0x00]);
     input.extend([0x44, 0x04, 0x80, 0x00]);
     input.extend([0; 8]);
+    input
+}
+
+#[test]
+fn lister() {
+    let input = listed();
     assert_eq!(input.len(), 46);
     assert_eq!(list(&input), "0 66 0 22\n26 67 1 4\n34 68 1 8\nok 3\n");
     assert_eq!(list(&input[..45]), "refused 4 at 34\n");
     assert_eq!(list(&[]), "ok 0\n");
     assert_eq!(list(&vec![0; 65_537]), "refused 1 at 0\n");
     assert_eq!(read_section(&input, 2), refused(7, 34));
+}
+
+#[test]
+fn the_lister_points_at_the_byte() {
+    let mut input = listed();
+    assert_eq!(list(&input[..37]), "refused 2 at 37\n");
+    input[38] = 1;
+    assert_eq!(list(&input), "refused 13 at 38\n");
+    input[32] = 65;
+    assert_eq!(list(&input), "refused 12 at 34\n");
+    input[30] = 0;
+    assert_eq!(list(&input), "refused 12 at 30\n");
 }
 
 #[test]
