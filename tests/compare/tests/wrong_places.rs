@@ -11,6 +11,7 @@ use oracle::answer;
 use oracle::answer::answer_of;
 use oracle::lister::judged;
 use oracle::text::Wrong;
+use oracle::LIMIT;
 
 /// Another place for the refusals with a number; none where the right one is kept.
 #[derive(Clone, Copy)]
@@ -266,6 +267,23 @@ fn each_is_caught(wrong: &[(&str, Place)]) {
     for &(name, place) in wrong {
         for &service in place.services() {
             assert!(caught(service, place), "{service:?}: {name}");
+        }
+    }
+}
+
+/// The end of the longest stream is a place too, and the only one that 24 bits do not hold.
+#[test]
+fn places_of_24_bits_are_caught_in_long_cases() {
+    let in_24_bits = [
+        Place::Of2(|it| Some((it.at + it.left) % LIMIT)),
+        Place::Of12(|it| (it.wrong == Wrong::EndLacking).then(|| it.row.end() % LIMIT)),
+    ];
+    for place in in_24_bits {
+        let services = place.services().iter();
+        for &service in services.filter(|service| **service != Service::Lister) {
+            let mut long = (0..10).map(|which| 1000 * which + 250);
+            let differs = |at| run(service, 1, at, at + 1, &Misplaced(place)).differing > 0;
+            assert!(long.any(differs), "{service:?}");
         }
     }
 }

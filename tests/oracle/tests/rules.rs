@@ -25,7 +25,7 @@ fn refused(records: &[Record], number: u8, index: usize) {
     assert_eq!(check(&stream(records)), Err(Refusal { number, place }));
 }
 
-/// Refused so many bytes behind the start of the body of the record with this index, by every call that reads a section.
+/// Refused so many bytes behind the start of the body of the record with this index, by every call on a section.
 fn refused_in(records: &[Record], number: u8, index: usize, behind: usize) {
     let (_, _, body) = &records[index];
     let place = place(records, index + 1) - body.len() + behind;
