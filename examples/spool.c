@@ -1,6 +1,6 @@
 /* spool: a host in C over hwp.h.
  *
- *   spool check FILE               is the section sound?
+ *   spool check FILE               is the section sound? If not, the row of bytes around the place
  *   spool fields FILE ID           the text of the field with the id, as UTF-8
  *   spool fill FILE ID VALUE OUT   the section with VALUE (UTF-8) in that field, written to OUT
  *
@@ -49,6 +49,38 @@ static int refused(const char *file, uint64_t answer)
     return REFUSED;
 }
 
+struct bytes {
+    uint8_t *at;
+    size_t len;
+};
+
+enum { ROW = 16, TEXT = 62 }; /* the bytes of a row, and the column of its characters */
+
+/* The column of a byte in its row; there is one for the spot behind the last, too. */
+static size_t column(size_t nth) { return 10 + 3 * nth + (nth >= ROW / 2); }
+
+/* The row of sixteen bytes around the place as a hex editor shows it, cut where the section ends, and ^^ under the
+ * byte. Where the place is that end there is none: the row is the last, and the spot behind its last byte is marked. */
+static void show_row(struct bytes section, size_t place)
+{
+    static const char digits[] = "0123456789abcdef";
+    int at_end = place >= section.len;
+    size_t first = (at_end && place ? place - 1 : place) / ROW * ROW;
+    char row[TEXT + ROW + 3];
+    memset(row, ' ', sizeof row);
+    size_t n = 0;
+    for (; n < ROW && first + n < section.len; n++) {
+        uint8_t byte = section.at[first + n];
+        row[column(n)] = digits[byte >> 4];
+        row[column(n) + 1] = digits[byte & 15];
+        row[TEXT + 1 + n] = byte >= 0x20 && byte < 0x7F ? (char)byte : '.';
+    }
+    row[TEXT] = row[TEXT + 1 + n] = '|';
+    row[TEXT + 2 + n] = 0;
+    fprintf(stderr, "%08zx%s\n%*s^^%s\n", first, row + 8, (int)column(place - first), "",
+            at_end ? " the end of the stream, behind its last byte" : "");
+}
+
 /* Output is only done once it has left: a full disk is seen here. */
 static int printed(void)
 {
@@ -56,11 +88,6 @@ static int printed(void)
         return DONE;
     return wrong("standard output: %s", strerror(errno));
 }
-
-struct bytes {
-    uint8_t *at;
-    size_t len;
-};
 
 /* The whole file. Of one over the limit only as much is read as the library needs to refuse it. */
 static int read_file(const char *name, struct bytes *file)
@@ -249,6 +276,8 @@ static int check(const char *file)
         uint64_t answer = hwp_check(section.at, section.len);
         if (hwp_number(answer) != HWP_ACCEPTED) {
             status = refused(file, answer);
+            if (*hwp_place_words(hwp_number(answer)))
+                show_row(section, hwp_place(answer));
         } else {
             printf("%s: accepted, %" PRIu32 " records\n", file, hwp_place(answer));
             status = printed();

@@ -13,9 +13,12 @@
  * - The answer is one number of 64 bits:
  *       number  +  256 x place  +  2^36 x further number
  *   Each of the three stands in full, whatever the input (a theorem). hwp_number, hwp_place and hwp_further below take
- *   it apart, hwp_words says it. Number 0 is 'accepted'; each other number is a refusal, its place is the byte place of
- *   a record header in the section (0 where there is none to name), and its further number is 0. A refusal changes no
- *   byte.
+ *   it apart, hwp_words says it. Number 0 is 'accepted'; each other number is a refusal, and its further number is 0.
+ *   A refusal changes no byte.
+ * - The place of a refusal is a byte place in the section: the first wrong byte, or the header of a record, as
+ *   hwp_place_words tells; 0 where there is none to name. It can be section_len, one behind the last byte: always for
+ *   2, and for 12 where the text at the end of the section lacks its 13. So read the byte at the place only where the
+ *   place is below section_len.
  * - The same input has the same answer, and where several rules are broken the order below says which one is named.
  */
 #ifndef HWP_H
@@ -190,12 +193,13 @@ static inline const char *hwp_place_words(unsigned number)
 {
     switch (number) {
     case HWP_HEADER_CUT:
+        return "the end of the stream";
     case HWP_LONG_LENGTH_TOO_SMALL:
+        return "the long length";
     case HWP_BODY_PAST_END:
     case HWP_TAG_OUTSIDE:
     case HWP_LEVEL_RULE:
     case HWP_LENGTH_WRONG:
-    case HWP_ENTRIES_WRONG:
     case HWP_DOCINFO_LENGTH:
         return "the record";
     case HWP_NO_ROOM:
@@ -208,7 +212,9 @@ static inline const char *hwp_place_words(unsigned number)
     case HWP_MISPLACED:
         return "the record, or the first below it";
     case HWP_TEXT_RULE:
-        return "the text record";
+        return "the unit that breaks the rule, or the end of the text where its 13 is lacking";
+    case HWP_ENTRIES_WRONG:
+        return "the entry at fault";
     case HWP_FIELD_HEADER_SHORT:
     case HWP_FIELD_NOT_PLAIN:
         return "the control header of the field";
@@ -217,7 +223,7 @@ static inline const char *hwp_place_words(unsigned number)
     case HWP_DOCINFO_RECORD:
         return "the record too many or not at level 0, or 0 where one is lacking";
     case HWP_COUNT_UNMATCHED:
-        return "record 17";
+        return "the first negative count, else the first that does not match (of counts 1 to 7 count 1)";
     default:
         return "";
     }

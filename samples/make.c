@@ -32,6 +32,7 @@ struct record {
     int npieces;
     int long_form;     /* damage: the long form, whatever the length */
     int too_many;      /* damage: the header claims so many bytes more */
+    size_t wrong;      /* damage: from the header to the first wrong byte; 0 where the record itself is named */
     size_t place, lead; /* where its header stands, and the header's length */
 };
 
@@ -196,6 +197,14 @@ static void mark(unsigned start, unsigned end, uint32_t tag)
     text.marks[text.nmarks++].tag = tag;
 }
 
+/* An entry of the record of marks. */
+static void mark_entry(uint32_t start, uint32_t end, uint32_t tag)
+{
+    n32(start, "mark: first position (table 58)");
+    n32(end, "mark: position behind its last");
+    n32(tag, "mark: kind in the upper 8 bits (2: highlight), colour in the others");
+}
+
 /* How a paragraph looks, and the names of its records. */
 struct look {
     unsigned level;
@@ -250,11 +259,8 @@ static void paragraph(struct look look)
     }
     if (text.nmarks)
         record(70, look.level + 1, "marks");
-    for (int i = 0; i < text.nmarks; i++) {
-        n32(text.marks[i].start, "mark: first position (table 58)");
-        n32(text.marks[i].end, "mark: position behind its last");
-        n32(text.marks[i].tag, "mark: kind in the upper 8 bits (2: highlight), colour in the others");
-    }
+    for (int i = 0; i < text.nmarks; i++)
+        mark_entry(text.marks[i].start, text.marks[i].end, text.marks[i].tag);
     memset(&text, 0, sizeof text);
 }
 
@@ -308,6 +314,7 @@ static const struct figures last_week = {u"2024. 6. 7.", u"0.52", u"0.21", u"4.0
 static const struct figures this_week = {u"2024. 6. 14.", u"0.6", u"0.185", u"4.0", u"9", 1, 0};
 static const struct figures tenth_week = {u"2024. 6. 7.", u"0.52", u"0.21", u"4.0", u"10", 0, 1};
 
+enum { HIGHLIGHT = 0x0200FFFF }; /* the kind and colour of a mark */
 enum { DATE = 2001, CHLORINE = 2002, TURBIDITY = 2003, LIMIT = 2004, WEEK = 2005 };
 
 static void section_definition(void)
@@ -507,7 +514,7 @@ static void figures_table(struct figures f)
     shape(0);
     unsigned a = field_start(LIMIT, "limit text")->a;
     words(f.limit, "the value");
-    mark(a, text.count, 0x0200FFFFu); /* the value is highlighted, from a to b */
+    mark(a, text.count, HIGHLIGHT); /* the value is highlighted, from a to b */
     field_end();
     words(u" mg/L", "the measure");
     one_unit(13, "paragraph end");
@@ -823,8 +830,32 @@ static void put_word(struct record *r, size_t at, uint32_t n)
 
 /* ---- damage ---- */
 
+/* The first wrong byte is this one of the body. */
+static void wrong_at(struct record *r, size_t at) { r->wrong = (r->len < 4095 ? 4 : 8) + at; }
+
+static void wrong_half(struct record *r, size_t at, unsigned n)
+{
+    put_half(r, at, n);
+    wrong_at(r, at);
+}
+
+static void wrong_word(struct record *r, size_t at, uint32_t n)
+{
+    put_word(r, at, n);
+    wrong_at(r, at);
+}
+
 static void header_cut(void) { sheet.cut = the("last")->len + 2; /* two bytes of the last header are left */ }
-static void long_form(void) { the("chlorine text")->long_form = 1; }
+static void long_length_cut(void)
+{
+    the("last")->long_form = 1;
+    sheet.cut = the("last")->len + 1; /* three bytes of the last long length are left */
+}
+static void long_form(void)
+{
+    the("chlorine text")->long_form = 1;
+    the("chlorine text")->wrong = 4; /* the long length */
+}
 static void body_past_end(void) { the("last")->too_many = 1; }
 static void tag_15(void) { the("page")->tag = 15; }
 static void level_jump(void) { the("table properties")->level = 3; }
@@ -857,21 +888,38 @@ static void layout_unasked(void)
     put_half(the("closing"), 16, 0);
     sheet.records[index_of("closing text") + 2].label = "unasked";
 }
-static void unit_0(void) { put_half(the("title text"), 2 * 18, 0); }
-static void not_closed(void) { put_half(the("date text"), 2 * (sheet.fields[0].b + 7), 5); }
+static void unit_0(void) { wrong_half(the("title text"), 2 * 18, 0); }
+static void not_closed(void) { wrong_half(the("date text"), 2 * (sheet.fields[0].b + 7), 5); }
+static void control_cut(void)
+{ /* a tab that has seven units, the 13 of the paragraph's end among them */
+    struct record *r = the("closing text");
+    wrong_half(r, r->len - 2 * 7, 9);
+}
 static void no_13(void)
 {
     struct record *r = the("turbidity text");
     put_half(r, r->len - 2, u'U');
+    wrong_at(r, r->len); /* where the text ends */
 }
-static void two_13s(void) { put_half(the("word text"), 0, 13); }
+static void two_13s(void) { wrong_half(the("word text"), 0, 13); }
 static void starts_equal(void)
-{
+{ /* the second start is 0 like the first */
     struct record *r = &sheet.records[index_of("chlorine text") + 1];
-    put_half(r, 8, 0);
+    wrong_half(r, 8, 0);
     r->label = "starts";
 }
-static void mark_behind(void) { put_half(the("marks"), 4, (unsigned)the("limit text")->len / 2 + 1); }
+static void mark_behind(void)
+{
+    put_half(the("marks"), 4, (unsigned)the("limit text")->len / 2 + 1);
+    wrong_at(the("marks"), 0); /* the entry, not its end alone */
+}
+static void mark_backwards(void)
+{ /* a second mark, whose start and end are those of the first exchanged */
+    now = the("marks");
+    put_half(the("limit"), 14, 2);
+    wrong_at(now, now->len);
+    mark_entry(sheet.fields[3].b, sheet.fields[3].a, HIGHLIGHT);
+}
 static void control_lost(void)
 {
     int at = index_of("date field");
@@ -901,27 +949,37 @@ static void counts_below(void) { the("counts")->level = 1; }
 static void properties_of_29(void) { the("document properties")->len = 29; }
 static void counts_of_56(void) { the("counts")->len = 56; /* fourteen counts of 32 bits */ }
 static void counts_of_62(void) { the("counts")->len = 62; /* fifteen, and half a count */ }
-static void count_negative(void) { put_half(the("counts"), 0, 0xFFFF); }
+static void count_negative(void) { wrong_half(the("counts"), 0, 0xFFFF); }
 static void wide_negative(void)
 { /* the seven counts of faces still make seven */
-    put_word(the("counts"), 4 * 1, (uint32_t)-1);
+    wrong_word(the("counts"), 4 * 1, (uint32_t)-1);
     put_word(the("counts"), 4 * 2, 3);
 }
+static void late_negative(void)
+{ /* a border too many stands before it, and is not what is named */
+    put_word(the("counts"), 4 * 8, 3);
+    wrong_word(the("counts"), 4 * 14, (uint32_t)-1);
+}
 static void faces_wrap(void)
-{ /* the seven counts of faces make seven, and 2 to the power 32 */
-    put_word(the("counts"), 4 * 1, 0x7FFFFFFF);
+{ /* the seven counts of faces make seven, and 2 to the power 32; the first of them is named */
+    wrong_word(the("counts"), 4 * 1, 0x7FFFFFFF);
     put_word(the("counts"), 4 * 2, 0x7FFFFFFF);
     put_word(the("counts"), 4 * 3, 5);
 }
-static void memo_shape_lost(void) { put_word(the("counts"), 4 * 15, 1); }
-static void face_lost(void) { take_away(index_of("face")); }
+static void memo_shape_lost(void) { wrong_word(the("counts"), 4 * 15, 1); }
+static void face_lost(void)
+{
+    take_away(index_of("face"));
+    wrong_at(the("counts"), 2 * 1);
+}
 
 static void good_water(void) { water(last_week); }
 static void filled_water(void) { water(this_week); }
 static void good_long(void) { long_sheet(last_week); }
 static void filled_long(void) { long_sheet(tenth_week); }
 
-/* Every sample: how it is made, what is then done to it, and what its call answers. Where `at` is empty the place is 0. */
+/* Every sample: how it is made, what is then done to it, and what its call answers. `at` is the label of the record
+ * that is named or has the wrong byte, or "end" for the end of the stream; where it is empty the place is 0. */
 static const struct sample {
     const char *name;
     void (*make)(void), (*damage)(void);
@@ -934,7 +992,8 @@ static const struct sample {
     {"long.section", good_long, NULL, 0, "", 0},
     {"long-filled.section", filled_long, NULL, 0, "", 0},
     {"nested.section", nested, NULL, 0, "", 0},
-    {"damaged/02-header-cut.section", good_water, header_cut, 2, "last", 0},
+    {"damaged/02-header-cut.section", good_water, header_cut, 2, "end", 0},
+    {"damaged/02-long-length-cut.section", good_water, long_length_cut, 2, "end", 0},
     {"damaged/03-long-length-too-small.section", good_water, long_form, 3, "chlorine text", 0},
     {"damaged/04-body-past-end.section", good_water, body_past_end, 4, "last", 0},
     {"damaged/05-tag-15.section", good_water, tag_15, 5, "page", 0},
@@ -949,10 +1008,12 @@ static const struct sample {
     {"damaged/11-layout-unasked.section", good_water, layout_unasked, 11, "unasked", 0},
     {"damaged/12-unit-0.section", good_water, unit_0, 12, "title text", 0},
     {"damaged/12-control-not-closed.section", good_water, not_closed, 12, "date text", 0},
+    {"damaged/12-control-cut-short.section", good_water, control_cut, 12, "closing text", 0},
     {"damaged/12-no-13-at-the-end.section", good_water, no_13, 12, "turbidity text", 0},
     {"damaged/12-13-before-the-end.section", good_water, two_13s, 12, "word text", 0},
     {"damaged/13-starts-equal.section", good_water, starts_equal, 13, "starts", 0},
     {"damaged/13-mark-behind-the-text.section", good_water, mark_behind, 13, "marks", 0},
+    {"damaged/13-mark-ends-before-its-start.section", good_water, mark_backwards, 13, "marks", 0},
     {"damaged/14-control-header-lost.section", good_water, control_lost, 14, "date", 0},
     {"damaged/15-command-too-long.section", good_water, command_too_long, 15, "turbidity field", 0},
     {"damaged/22-same-id.section", good_water, same_id, 22, "turbidity field", CHLORINE},
@@ -969,6 +1030,7 @@ static const struct sample {
     {"damaged/18-count-negative.docinfo", docinfo, count_negative, 18, "counts", 0},
     {"damaged/18-face-lost.docinfo", docinfo, face_lost, 18, "counts", 0},
     {"damaged/18-wide-count-negative.docinfo", current_docinfo, wide_negative, 18, "counts", 0},
+    {"damaged/18-negative-behind-unmatched.docinfo", current_docinfo, late_negative, 18, "counts", 0},
     {"damaged/18-faces-over-32-bits.docinfo", current_docinfo, faces_wrap, 18, "counts", 0},
     {"damaged/18-memo-shape-lost.docinfo", current_docinfo, memo_shape_lost, 18, "counts", 0},
 };
@@ -1012,18 +1074,27 @@ static void write_listing(FILE *to)
     fprintf(to, "ok %d\n", sheet.count);
 }
 
+/* The place that a refusal of this sample names. */
+static size_t place_of(const struct sample *s)
+{
+    if (!*s->at)
+        return 0;
+    if (!strcmp(s->at, "end"))
+        return length;
+    return the(s->at)->place + the(s->at)->wrong;
+}
+
 /* The calls on this sample and their answers: number, place or what stands in its column, further number. */
 static void expect(FILE *to, const struct sample *s)
 {
     const char *call = is_docinfo(s->name) ? "docinfo" : "check";
-    size_t place = *s->at ? the(s->at)->place : 0;
     if (s->number && !s->id) {
-        fprintf(to, "%s %s - %u %zu 0\n", s->name, call, s->number, place);
+        fprintf(to, "%s %s - %u %zu 0\n", s->name, call, s->number, place_of(s));
         return;
     }
     fprintf(to, "%s %s - 0 %d 0\n", s->name, call, sheet.count);
     if (s->id)
-        fprintf(to, "%s field %u %u %zu 0\n", s->name, s->id, s->number, place);
+        fprintf(to, "%s field %u %u %zu 0\n", s->name, s->id, s->number, place_of(s));
     for (int i = 0; i < sheet.nfields && !s->id; i++) {
         const struct field *f = &sheet.fields[i];
         const struct record *r = the(f->label);

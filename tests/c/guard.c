@@ -2,9 +2,9 @@
  *
  *   guard SAMPLES    SAMPLES is the folder of the samples with its expected.txt
  *
- * Document 01's pairs about fills, each number of check, field text and fill at its edge, and every sample. Each call is
- * made twice, with the buffers before the trapping page and behind it; its answer and every byte of the sheet buffer
- * are compared.
+ * Document 01's pairs about fills, each number of check, field text and fill at its edge, the wrong byte that 2, 3, 12
+ * and 13 name in all three, and every sample. Each call is made twice, with the buffers before the trapping page and
+ * behind it; its answer and every byte of the sheet buffer are compared.
  */
 #define _GNU_SOURCE
 #define PROGRAM "guard"
@@ -58,6 +58,14 @@ static void fill_is(const char *name, const struct stream *s, uint32_t id, struc
         give_back(value);
         give_back(out);
     }
+}
+
+/* A refusal of the section, which all three hand on. */
+static void refused_is(const char *name, const struct stream *s, unsigned number, size_t place)
+{
+    check_is(name, s, answer(number, place, 0));
+    field_is(name, s, 7, answer(number, place, 0));
+    fill_is(name, s, 7, units(1, '2'), 64, answer(number, place, 0), NULL);
 }
 
 static struct stream one(const struct paragraph *p)
@@ -205,6 +213,10 @@ static void limits(void)
     check_is("over the limit", &s, answer(1, 0, 0));
     field_is("over the limit", &s, 7, answer(1, 0, 0));
     fill_is("over the limit", &s, 7, units(1, 0), 0, answer(1, 0, 0), NULL);
+    s.length = 0;
+    put_record(&s, 20, 0, LIMIT - 8 - 2);
+    put_half(&s, 20);
+    refused_is("a header cut at the limit", &s, 2, LIMIT);
     free(sheet.bytes);
     free(s.bytes);
 }
@@ -233,7 +245,7 @@ static void beginnings(void)
         uint64_t asked = n == 0     ? answer(0, 0, 0)
                          : n == 46  ? answer(0, 3, 0)
                          : n == last ? answer(10, 0, 0)
-                         : n < last + 4 ? answer(2, last, 0)
+                         : n < last + 4 ? answer(2, n, 0)
                                         : answer(4, last, 0);
         check_is("a beginning of document 01's section", &s, asked);
         field_is("a beginning of document 01's section", &s, 0, hwp_number(asked) ? asked : answer(21, 0, 0));
@@ -243,11 +255,123 @@ static void beginnings(void)
     free(s.bytes);
 }
 
+/* The long length of the second record: every beginning of it, and one that is too small. */
+static void long_length_places(void)
+{
+    struct stream s = new_stream(64);
+    put_record(&s, 20, 0, 5);
+    put_word(&s, 20 | 4095u << 20);
+    size_t long_length = s.length;
+    for (; s.length < long_length + 4; s.bytes[s.length++] = 0xFF)
+        refused_is("a long length cut", &s, 2, s.length);
+    s.length = long_length;
+    put_word(&s, 4094);
+    refused_is("a long length of 4,094", &s, 3, long_length);
+    free(s.bytes);
+}
+
+/* A text of these units; gives the place of its body. */
+static size_t put_units(struct stream *s, const uint16_t *unit, uint32_t count)
+{
+    put_header(s, 67, 1, 2 * count);
+    size_t body = s->length;
+    for (uint32_t i = 0; i < count; i++)
+        put_half(s, unit[i]);
+    return body;
+}
+
+/* A paragraph with these units, its text before the shapes and then at the end of the section: 12 at the wrong unit. */
+static void text_is(const char *name, const uint16_t *unit, uint32_t count, uint32_t wrong)
+{
+    for (int last = 0; last < 2; last++) {
+        struct stream s = new_stream(65536);
+        size_t body = 0;
+        put_record(&s, 20, 0, 1);
+        put_header(&s, 66, 0, 22);
+        put_numbers(&s, count, 1, 0, 0);
+        if (!last)
+            body = put_units(&s, unit, count);
+        put_record(&s, 68, 1, 8);
+        memset(s.bytes + s.length - 8, 0, 8);
+        if (last)
+            body = put_units(&s, unit, count);
+        refused_is(name, &s, 12, body + 2 * wrong);
+        free(s.bytes);
+    }
+}
+
+/* The unit that breaks the rule, each rule where another place is near. */
+static void unit_places(void)
+{
+    static const struct {
+        const char *name;
+        uint32_t count, wrong;
+        uint16_t units[12];
+    } texts[] = {
+        {"unit 0 first", 2, 0, {0, 13}},
+        {"unit 0 behind a control", 11, 9, {9, 0, 0, 0, 0, 0, 0, 9, 'A', 0, 13}},
+        {"unit 0 last", 2, 1, {'A', 0}},
+        {"13 first", 2, 0, {13, 13}},
+        {"13 behind a control that holds one", 11, 9, {4, 13, 13, 0, 0, 0, 0, 4, 'A', 13, 'B'}},
+        {"13 and behind it unit 0", 3, 1, {'A', 13, 0}},
+        {"a control of seven units", 8, 1, {'A', 11, 0, 0, 0, 0, 0, 13}},
+        {"a control of seven units with its code last", 8, 1, {'A', 11, 0, 0, 0, 0, 0, 11}},
+        {"a control of one unit", 2, 1, {'A', 4}},
+        {"document 01's code 9 with the eighth unit 8", 9, 7, {9, 0, 0, 0, 0, 0, 0, 8, 13}},
+        {"a control whose closing unit is the text's 13", 9, 8, {'A', 3, 0, 0, 0, 0, 0, 0, 13}},
+        {"a wrong closing code before unit 0", 9, 7, {9, 0, 0, 0, 0, 0, 0, 0, 0}},
+        {"13 lacking", 2, 2, {'A', 'B'}},
+        {"13 lacking behind a control", 8, 8, {9, 0, 0, 0, 0, 0, 0, 9}},
+    };
+    for (size_t i = 0; i < sizeof texts / sizeof *texts; i++)
+        text_is(texts[i].name, texts[i].units, texts[i].count, texts[i].wrong);
+
+    uint16_t long_text[2100];
+    for (int i = 0; i < 2100; i++)
+        long_text[i] = 'A';
+    text_is("13 lacking in a long text", long_text, 2100, 2100);
+    long_text[2098] = 13;
+    text_is("13 before the end of a long text", long_text, 2100, 2098);
+}
+
+/* The entry at fault: of shapes with two faults the earlier one, and shapes before marks. */
+static void entry_places(void)
+{
+    static const struct {
+        const char *name;
+        uint32_t starts[3];
+        uint32_t mark[2]; /* start and end of the second of three */
+        size_t wrong;     /* bytes behind the first shape */
+    } entries[] = {
+        {"the first start is 1", {1, 9, 28}, {0, 0}, 0},
+        {"a start that stays", {0, 9, 9}, {0, 0}, 16},
+        {"a start that falls", {0, 9, 8}, {0, 0}, 16},
+        {"a start behind the text, and one that falls", {0, 28, 9}, {0, 0}, 8},
+        {"a start behind the text, and a mark", {0, 9, 28}, {1, 0}, 16},
+        {"a mark that ends before its start", {0, 9, 27}, {5, 4}, 24 + 4 + 12},
+        {"a mark that ends behind the text", {0, 9, 27}, {28, 29}, 24 + 4 + 12},
+    };
+    for (size_t i = 0; i < sizeof entries / sizeof *entries; i++) {
+        struct paragraph p = {.value = 3, .behind = 8, .unit = '1', .nstarts = 3, .marks = 3, .id = 7};
+        memcpy(p.starts, entries[i].starts, sizeof entries[i].starts);
+        struct stream s = one(&p);
+        size_t length = s.length, shapes = 4 + 23 + 4 + 2 * count_of(&p) + 4;
+        s.length = shapes + 24 + 4 + 12;
+        put_word(&s, entries[i].mark[0]);
+        put_word(&s, entries[i].mark[1]);
+        s.length = length;
+        refused_is(entries[i].name, &s, 13, shapes + entries[i].wrong);
+        free(s.bytes);
+    }
+}
+
 static void sample_is(const char *folder, const struct line *line)
 {
     struct stream s = read_sample(folder, line->name);
     uint64_t asked = answer(line->number, line->place, line->further);
-    if (!strcmp(line->call, "check"))
+    if (!strcmp(line->call, "check") && line->number)
+        refused_is(line->name, &s, line->number, line->place);
+    else if (!strcmp(line->call, "check"))
         check_is(line->name, &s, asked);
     else if (!strcmp(line->call, "field"))
         field_is(line->name, &s, line->id, asked);
@@ -308,6 +432,9 @@ int main(int argc, char **argv)
     longest_sheet();
     fill_numbers();
     limits();
+    long_length_places();
+    unit_places();
+    entry_places();
     each_line(argv[1], sample_is);
     filled_samples(argv[1]);
     return result();

@@ -3,7 +3,8 @@
  *   reads SAMPLES    SAMPLES is the folder of the samples with its expected.txt
  *
  * DocInfo read on each DocInfo and, with SECTION defined, the section read on each section: the answer is the one in
- * expected.txt, and the lists hold what the listing says. Lists with one entry too few get 7.
+ * expected.txt, and the lists hold what the listing says. Lists with one entry too few get 7. Each count of a DocInfo
+ * is made wrong, and 18 names it.
  */
 #define _GNU_SOURCE
 #define PROGRAM "reads"
@@ -93,6 +94,26 @@ static void sample_is(const char *folder, const struct line *line)
     free(listing.bytes);
 }
 
+/* Each count that is asked, negative and then one too high; of counts 1 to 7 the first is named for one too high. */
+static void counts_are_named(const char *folder, const char *name, size_t width)
+{
+    struct stream s = read_sample(folder, name);
+    const uint64_t counts = 4 + 30 + 4; /* behind record 16 and the header of 17 */
+    now = name;
+    for (size_t i = 0; i < 16; i++) {
+        uint8_t *count = s.bytes + counts + width * i, right = *count;
+        size_t group = i >= 1 && i <= 7 ? 1 : i;
+        memset(count, 0xFF, width);
+        read_is(probe_read_docinfo, &s, 20, 18 + 256 * (counts + width * i), NULL);
+        memset(count, 0, width);
+        *count = right + 1;
+        read_is(probe_read_docinfo, &s, 20, 18 + 256 * (counts + width * group), NULL);
+        *count = right;
+    }
+    read_is(probe_read_docinfo, &s, 20, 256 * 20, NULL);
+    free(s.bytes);
+}
+
 int main(int argc, char **argv)
 {
     if (argc != 2) {
@@ -101,5 +122,7 @@ int main(int argc, char **argv)
     }
     catch_traps();
     each_line(argv[1], sample_is);
+    counts_are_named(argv[1], "water.docinfo", 2);
+    counts_are_named(argv[1], "water-current.docinfo", 4);
     return result();
 }

@@ -9,6 +9,8 @@
 #include "hwp.h"
 
 #define KNOWN(n) ((n) <= 27 && (n) != 19)
+/* whose place is the wrong byte, each another one */
+#define AT_BYTE(n) ((n) == 2 || (n) == 3 || (n) == 12 || (n) == 13 || (n) == 18)
 
 static unsigned checks, failed;
 
@@ -54,6 +56,8 @@ int main(int argc, char **argv)
         /* 1, 20, 21 and 25 to 27 name no place, 0 has none */
         int places = KNOWN(n) && n != 0 && n != 1 && n != 20 && n != 21 && n < 25;
         expect((*hwp_place_words(n) != 0) == places, "words for the place", n);
+        for (unsigned m = 0; m < 256 && AT_BYTE(n); m++)
+            expect(m == n || strcmp(hwp_place_words(n), hwp_place_words(m)), "the place of another number", n);
     }
     printf("words: %u checks, %u failed\n", checks, failed);
     return failed != 0;

@@ -1,4 +1,5 @@
-/* wrong.c: document 01's wrong parts ('What acceptance of a promise means'), each of which the C tests have to catch.
+/* wrong.c: document 01's wrong parts ('What acceptance of a promise means'), and two that name a record in the place of
+ * the wrong byte; the C tests have to catch each.
  *
  * It is linked between a test and the right library by the linker's --wrap: the test's hwp_fill is __wrap_hwp_fill, and
  * __real_hwp_fill is the library's. PART names the wrong part. Each is right in all but its one fault, so that nothing
@@ -22,6 +23,8 @@ enum part {
     FILLS_NEW,      /* a call copies where it asks for the same as the one before it */
     COUNT_GUESSED,  /* from the number of bytes, as if every record had 23 */
     LENGTH_GUESSED, /* as if the value were put in beside the old one */
+    NAMES_HEADER,   /* field text names the header that is cut, not the end of the section */
+    NAMES_TEXT,     /* fill names the text's record, not the unit */
 };
 
 uint64_t __real_hwp_check(const uint8_t *section, size_t section_len);
@@ -55,9 +58,32 @@ uint64_t __wrap_hwp_check(const uint8_t *section, size_t section_len)
     }
 }
 
+static uint32_t word_at(const uint8_t *at)
+{
+    return at[0] | (uint32_t)at[1] << 8 | (uint32_t)at[2] << 16 | (uint32_t)at[3] << 24;
+}
+
+/* A refusal of this number with the place of the record that the place is in, or that ends there, or is cut. */
+static uint64_t by_record(uint64_t told, unsigned number, const uint8_t *section, size_t section_len)
+{
+    size_t header = 0, next = 0;
+    if (hwp_number(told) != number)
+        return told;
+    while (next < hwp_place(told)) {
+        header = next;
+        uint32_t size = section_len - header < 4 ? 4095 : word_at(section + header) >> 20;
+        if (size == 4095 && section_len - header < 8)
+            break;
+        next = header + (size < 4095 ? 4 + size : 8 + (size_t)word_at(section + header + 4));
+    }
+    return number + 256 * (uint64_t)header;
+}
+
 uint64_t __wrap_hwp_field_text(const uint8_t *section, size_t section_len, uint32_t id)
 {
     uint64_t told = __real_hwp_field_text(section, section_len, id);
+    if (PART == NAMES_HEADER)
+        return by_record(told, HWP_HEADER_CUT, section, section_len);
     return PART == REFUSES_ALL && hwp_number(told) == HWP_ACCEPTED ? HWP_STREAM_TOO_LONG : told;
 }
 
@@ -104,6 +130,8 @@ uint64_t __wrap_hwp_fill(const uint8_t *section, size_t section_len, uint32_t id
     static struct bytes right, first;
     size_t room = sheet_len < sizeof right.at ? sheet_len : sizeof right.at;
     uint64_t told = __real_hwp_fill(section, section_len, id, value, value_len, right.at, room);
+    if (PART == NAMES_TEXT)
+        told = by_record(told, HWP_TEXT_RULE, section, section_len);
     if (hwp_number(told) != HWP_ACCEPTED)
         return told;
     right.length = hwp_place(told);

@@ -68,7 +68,7 @@ static void read_pairs(void)
     read_is("empty stream, longer lists", &s, uneven, answer(0, 0), NULL, 0);
     memcpy(s.bytes, "\x42\0\0", 3);
     s.length = 3;
-    read_is("three bytes", &s, three, answer(2, 0), NULL, 0);
+    read_is("three bytes", &s, three, answer(2, 3), NULL, 0);
 
     s.length = 0;
     put_record(&s, 20, 0, 4094);
@@ -86,12 +86,12 @@ static void read_pairs(void)
     read_is("body 4095", &s, one, answer(0, 1), &extended, 1);
     for (size_t length = 4; length < 8; length++) {
         s.length = length;
-        read_is("long length cut", &s, one, answer(2, 0), NULL, 0);
+        read_is("long length cut", &s, one, answer(2, length), NULL, 0);
     }
     s.length = 4;
     put_word(&s, 4094);
     s.length = 4102;
-    read_is("long length 4094", &s, one, answer(3, 0), NULL, 0);
+    read_is("long length 4094", &s, one, answer(3, 4), NULL, 0);
 
     s.length = 0;
     put_record(&s, 20, 1, 0);
@@ -116,6 +116,12 @@ static void read_pairs(void)
     put_record(&s, 66, 0, 2);
     put_record(&s, 15, 0, 0);
     read_is("tag 15", &s, three, answer(5, 6), NULL, 0);
+    s.length = 6;
+    put_header(&s, 20, 0, 4095);
+    s.bytes[10]--;
+    read_is("long length 4094 behind a record", &s, three, answer(3, 10), NULL, 0);
+    s.length = 7;
+    read_is("header cut behind a record", &s, three, answer(2, 7), NULL, 0);
 
     s.length = 0;
     put_record(&s, 20, 0, LIMIT - 8);

@@ -13,7 +13,7 @@ use Rattle.numbers.specs.Little.{little}
 use Rattle.records.specs.declared.fault.Fault.{Fault}
 use Rattle.text.proofs.Cases.{eq-or}
 use Rattle.entries.specs.Entries.{entries, laterFault, startFault, shapesFault, markFault, marksFault}
-use Rattle.paragraph.specs.Rules.{guard, orElse, lengthOf, lacks, unwanted, misfits, isSome, fieldShort, fieldFault}
+use Rattle.paragraph.specs.Rules.{guard, guardAt, orElse, lengthOf, lacks, unwanted, misfits, fieldShort, fieldFault}
 use Rattle.paragraph.specs.declared.finding.Which.{Which}
 use Rattle.paragraph.specs.declared.finding.Finding.{Finding}
 use Rattle.paragraph.specs.declared.finding.Finding.the-variants as G
@@ -48,6 +48,15 @@ guard-says false f w rest e = (refl, e)
 pub guard-passes : {b : Bool} {rest : Finding} (x : Finding) → b ≡ false → rest ≡ G.Lawful → guard b x rest ≡ G.Lawful
 unfolding guard
 guard-passes x e q = rw e q
+
+pub at-says : (o : Option ℕ) (f : Fault) (names : ℕ → Which) (rest : Finding) → guardAt o f names rest ≡ G.Lawful → (o ≡ none) × (rest ≡ G.Lawful)
+unfolding guardAt
+at-says none f names rest e = (refl, e)
+at-says (some i) f names rest e = absurd (let z : _≡_ {A = ℕ} 0 1 = cc in omega arith)
+
+pub at-passes : {o : Option ℕ} {rest : Finding} (f : Fault) (names : ℕ → Which) → o ≡ none → rest ≡ G.Lawful → guardAt o f names rest ≡ G.Lawful
+unfolding guardAt
+at-passes f names e q = rw e q
 
 pub else-says : (a rest : Finding) → orElse a rest ≡ G.Lawful → (a ≡ G.Lawful) × (rest ≡ G.Lawful)
 unfolding orElse
@@ -93,10 +102,6 @@ misfits-not each number (some b) h =
     neither (ne-eqb number 0 (λ q. omega (arith, k .above))) (ap not (eq-eqb (length b) (each * number) (k .bytes)))
 
 -- ---- entries
-
-pub none-says : (o : Option ℕ) → isSome o ≡ false → o ≡ none
-none-says none e = refl
-none-says (some i) e = absurd (differ e)
 
 cond-says : (t : Bool) (rest : Option ℕ) (i : ℕ) → cond t rest (some i) ≡ none → (t ≡ true) × (rest ≡ none)
 cond-says true rest i e = (refl, e)

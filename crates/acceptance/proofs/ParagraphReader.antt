@@ -12,25 +12,25 @@ use borrow.Author.Tests.{ltb-false, le-ltb, eqb-true, eq-eqb, not-false}
 use Rattle.records.specs.Records.{Rec}
 use Rattle.text.specs.Units.{units}
 use Rattle.text.specs.Asked.{SoundText}
-use Rattle.text.specs.Walk.{textFault, tokens, extendedCount}
+use Rattle.text.specs.Walk.{tokens, extendedCount}
 use Rattle.text.proofs.SoundLaws.{sound-exactly}
 use Rattle.paragraph.specs.View.{View, child, controls}
 use Rattle.entries.specs.Entries.{shapesFault, marksFault}
-use Rattle.paragraph.specs.Rules.{countsOf, lengthOf, lengthsOf, lacks, absent, unwanted, misfits, lengthFault, isSome, textBroken, bytesIn, entryFault, codesIn, fieldFault, controlFault, bodyFault, partsFault, headFault, paragraphFault}
+use Rattle.paragraph.specs.Rules.{countsOf, lengthOf, lengthsOf, lacks, absent, unwanted, misfits, lengthFault, unitBroken, bytesIn, entryFault, codesIn, fieldFault, controlFault, bodyFault, partsFault, headFault, paragraphFault}
 use Rattle.paragraph.specs.declared.finding.Counts.{Counts}
 use Rattle.paragraph.specs.declared.finding.Finding.the-variants as G
 use Rattle.acceptance.specs.Keeps.{Keeps}
-use Rattle.acceptance.proofs.ChainLaws.{both-false, neither, some-none, guard-says, guard-passes, else-says, else-passes, lacks-says, lacks-not, unwanted-says, unwanted-not, misfits-says, misfits-not, none-says, shapes-say, shapes-not, marks-say, marks-not, fields-say, fields-not}
+use Rattle.acceptance.proofs.ChainLaws.{both-false, neither, some-none, guard-says, guard-passes, at-says, at-passes, else-says, else-passes, lacks-says, lacks-not, unwanted-says, unwanted-not, misfits-says, misfits-not, shapes-say, shapes-not, marks-say, marks-not, fields-say, fields-not}
 
 -- ---- the text
 
-text-says : (o : Option (List ℕ)) → textBroken o ≡ false → (b : List ℕ) → o ≡ some b → SoundText (units b)
+text-says : (o : Option (List ℕ)) → unitBroken o ≡ none → (b : List ℕ) → o ≡ some b → SoundText (units b)
 text-says none e b q = absurd (some-none (sym q))
-text-says (some c) e b q = let same : c ≡ b = cc in rw (← same) (sound-exactly (units c) .0 (none-says (textFault (units c)) e))
+text-says (some c) e b q = let same : c ≡ b = cc in rw (← same) (sound-exactly (units c) .0 e)
 
-text-not : (o : Option (List ℕ)) → ((b : List ℕ) → o ≡ some b → SoundText (units b)) → textBroken o ≡ false
+text-not : (o : Option (List ℕ)) → ((b : List ℕ) → o ≡ some b → SoundText (units b)) → unitBroken o ≡ none
 text-not none h = refl
-text-not (some b) h = ap isSome (sound-exactly (units b) .1 (h b refl))
+text-not (some b) h = sound-exactly (units b) .1 (h b refl)
 
 -- ---- the parts of the chain
 
@@ -88,7 +88,7 @@ module _ (c : Counts) (own : List Rec) where
 
   -- 12 to 15
   pub record Sounding : Type 0 where
-    pub text-whole : textBroken text ≡ false
+    pub text-whole : unitBroken text ≡ none
     pub shapes-none : shapesFault (c .count) (bytesIn shapes) ≡ none
     pub marks-none : marksFault (c .count) (bytesIn marks) ≡ none
     pub equal : extendedCount (units (bytesIn text)) ≡ length (controls own)
@@ -97,15 +97,15 @@ module _ (c : Counts) (own : List Rec) where
   sounding-says : bodyFault (c .count) text (bytesIn shapes) (bytesIn marks) (controls own) ≡ G.Lawful → Sounding
   unfolding bodyFault entryFault controlFault
   sounding-says e =
-      let a = guard-says (textBroken text) _ _ _ e in
+      let a = at-says (unitBroken text) _ _ _ e in
       let b = else-says (entryFault (c .count) (bytesIn shapes) (bytesIn marks)) _ (a .1) in
-      let d = guard-says (isSome (shapesFault (c .count) (bytesIn shapes))) _ _ _ (b .0) in
-      let f = guard-says (isSome (marksFault (c .count) (bytesIn marks))) _ _ _ (d .1) in
+      let d = at-says (shapesFault (c .count) (bytesIn shapes)) _ _ _ (b .0) in
+      let f = at-says (marksFault (c .count) (bytesIn marks)) _ _ _ (d .1) in
       let g = guard-says (not (eqb (extendedCount (units (bytesIn text))) (length (controls own)))) _ _ _ (b .1) in
       record {
         text-whole = a .0;
-        shapes-none = none-says (shapesFault (c .count) (bytesIn shapes)) (d .0);
-        marks-none = none-says (marksFault (c .count) (bytesIn marks)) (f .0);
+        shapes-none = d .0;
+        marks-none = f .0;
         equal = eqb-true (extendedCount (units (bytesIn text))) (length (controls own)) (not-false (eqb (extendedCount (units (bytesIn text))) (length (controls own))) (g .0));
         fields = g .1;
       }
@@ -113,8 +113,8 @@ module _ (c : Counts) (own : List Rec) where
   sounding-not : Sounding → bodyFault (c .count) text (bytesIn shapes) (bytesIn marks) (controls own) ≡ G.Lawful
   unfolding bodyFault entryFault controlFault
   sounding-not k =
-      guard-passes _ (k .text-whole)
-      (else-passes (guard-passes _ (ap isSome (k .shapes-none)) (guard-passes _ (ap isSome (k .marks-none)) refl))
+      at-passes _ _ (k .text-whole)
+      (else-passes (at-passes _ _ (k .shapes-none) (at-passes _ _ (k .marks-none) refl))
       (guard-passes _ (ap not (eq-eqb (extendedCount (units (bytesIn text))) (length (controls own)) (k .equal))) (k .fields)))
 
 -- ---- the whole

@@ -1,9 +1,8 @@
 -- What becomes of a child, by its kind: the pieces that are put make its bytes. Assumes nothing.
-use Prim.Native.Nat.{ℕ, zero, suc, _+_, _-_, _*_, _/_, _≤_, min}
+use Prim.Native.Nat.{ℕ, _+_, _-_, _*_, _/_, _≤_, min}
 use native.Mathlib.Omega.{arith}
-use mathlib.Core.Path.{_≡_, refl, sym, ap, ap₂, _∙_}
-use mathlib.Core.Bool.{Bool, true, false, cond, _&&_}
-use mathlib.Core.List.{List, [], _∷_, _++_, map}
+use mathlib.Core.Path.{_≡_, sym, ap, ap₂, _∙_}
+use mathlib.Core.List.{List, [], _++_}
 use mathlib.Core.Logic.{inl, inr}
 use Rattle.text.proofs.Cases.{lt-or}
 use borrow.Author.Tests.{eq-eqb, ne-eqb}
@@ -17,13 +16,13 @@ use Rattle.records.specs.Reading.{offset}
 use Rattle.records.specs.declared.fault.Offset.{Offset}
 use Rattle.records.specs.declared.header.Record.{Record}
 use Rattle.text.specs.declared.Position.{Position}
-use Rattle.entries.specs.Entries.{entries}
 use Rattle.paragraph.specs.Places.{unitPlace}
 use Rattle.filling.specs.Replacing.{replaced}
-use Rattle.filling.specs.Shapes.{Entry, entryAt, inside, anyInside, startAt, moved, packed, shapesIn, shapesAfter}
+use Rattle.filling.specs.Shapes.{packed, shapesIn, shapesAfter}
 use Rattle.filling.specs.Editing.{withBody}
 use Rattle.filling.specs.Filling.{altered, withBit15, newBody}
 use Rattle.filling.proofs.PackingLaws.{length-packed}
+use Rattle.filling.proofs.KeepLaws.{after-fewer, length-shapes}
 use Rattle.changing.specs.declared.child.Spot.{Spot}
 use Rattle.putting.specs.Putting.{largest, Puts}
 use Rattle.changing.specs.Child.{fieldAt, recordWith, changedBytes, childBytes}
@@ -73,31 +72,8 @@ module _ (a b : ℕ) (value body : List ℕ) {from to : ℕ} (e : from ≡ min (
 
 -- ---- the shapes
 
-length-after : (a b v : ℕ) (es : List Entry) → length (shapesAfter a b v es) ≤ length es
-unfolding shapesAfter
-length-after a b v [] = omega arith
-length-after a b v (e ∷ es) = by (inside a b (e .start) && anyInside a b es) (length-after a b v es)
-  where
-    by : (t : Bool) → length (shapesAfter a b v es) ≤ length es
-        → length (cond t (shapesAfter a b v es) (startAt (moved a b v (e .start)) e ∷ shapesAfter a b v es)) ≤ suc (length es)
-    by true h = omega arith
-    by false h = omega arith
-
-length-map : (f : List ℕ → Entry) (l : List (List ℕ)) → length (map f l) ≡ length l
-length-map f [] = refl
-length-map f (x ∷ l) = ap suc (length-map f l)
-
-length-entries : (w n : ℕ) (l : List ℕ) → length (entries w n l) ≡ n
-unfolding entries
-length-entries w zero l = refl
-length-entries w (suc n) l = ap suc (length-entries w n (drop w l))
-
-length-shapesIn : (body : List ℕ) → length (shapesIn body) ≡ length body / 8
-unfolding shapesIn
-length-shapesIn body = length-map entryAt (entries 8 (length body / 8) body) ∙ length-entries 8 (length body / 8) body
-
 pub shapes-short : (a b v : ℕ) (body : List ℕ) → length (packed (shapesAfter a b v (shapesIn body))) ≤ length body
-shapes-short a b v body = omega (arith, length-packed (shapesAfter a b v (shapesIn body)), length-after a b v (shapesIn body), length-shapesIn body)
+shapes-short a b v body = omega (arith, length-packed (shapesAfter a b v (shapesIn body)), after-fewer a b v (shapesIn body), length-shapes body)
 
 pub shapes-measured : (a b v : ℕ) (body : List ℕ) {out after : List ℕ} {r : ℕ} → length body ≤ largest
     → Puts out 0 (packed (shapesAfter a b v (shapesIn body))) r after → r ≡ length (packed (shapesAfter a b v (shapesIn body)))

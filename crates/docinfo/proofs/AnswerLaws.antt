@@ -1,5 +1,5 @@
 -- The ways out of the DocInfo read, in the order of document 01. Assumes nothing.
-use Prim.Native.Nat.{ℕ, _+_, _≤_, _<_}
+use Prim.Native.Nat.{ℕ, _+_, _*_, _≤_, _<_}
 use native.Mathlib.Omega.{arith}
 use mathlib.Core.Path.{_≡_, refl, sym, ap, _∙_}
 use mathlib.Core.Option.{Option, none, some}
@@ -29,6 +29,7 @@ use Rattle.docinfo.specs.declared.counts.Verdict.{Verdict}
 use Rattle.docinfo.specs.declared.counts.Verdict.the-variants as W
 use Rattle.docinfo.proofs.WalkLaws.{rest}
 use Rattle.docinfo.proofs.OnlyLaws.{Alone, sole-wrong}
+use Rattle.docinfo.proofs.CountLaws.{within-told, fault-within}
 
 -- ---- the two bodies: 17, 17, 18
 
@@ -40,10 +41,10 @@ module _ (s : List ℕ) (n : ℕ) (p m : Record) (pre : (InStream s p) × (InStr
   answer = settled n (bodiesFault (locatedAt s p) (locatedAt s m))
 
   length-16 : length (bodyOf p) ≡ p .len
-  length-16 = length-part s (p .body .0) (p .len) (pre .0)
+  length-16 = length-part s (p .body .0) (p .len) (pre .0 .1)
 
   length-17 : length (bodyOf m) ≡ m .len
-  length-17 = length-part s (m .body .0) (m .len) (pre .1)
+  length-17 = length-part s (m .body .0) (m .len) (pre .1 .1)
 
   pub bodies-16 : p .len < 30 → refusedAt F.DocInfoLength (p .at .0) ≡ answer
   unfolding bodiesFault
@@ -62,24 +63,31 @@ module _ (s : List ℕ) (n : ℕ) (p m : Record) (pre : (InStream s p) × (InStr
       abbrev faultOf : List ℕ → Option ℕ
       faultOf body = countFault (countBytes w) body (children 1 (rest 1 s (m .next .0)))
 
-      counted : answer ≡ settled n (countRefusal (m .at .0) (faultOf (bodyOf m)))
+      counted : answer ≡ settled n (countRefusal (m .body .0) (countBytes w) (faultOf (bodyOf m)))
       unfolding kidsOf
       counted =
           let next : m .level + 1 ≡ 1 = omega (arith, pre .2) in
-          judged-by (M.Counts w) e ∙ simp next
+          judged-by (M.Counts w) e ∙ simp (next, length-17, ← pre .1 .0)
 
       -- the answer to a verdict on the counts
       abbrev told : Verdict → Answer
       told W.Sound = A.Accepted n
-      told (W.Fault i) = refusedAt F.CountUnmatched (m .at .0)
+      told (W.Fault i) = refusedAt F.CountUnmatched (m .body .0 + countBytes w * i)
 
-      told-is : (o : Option ℕ) → told (verdictOf o) ≡ settled n (countRefusal (m .at .0) o)
+      told-is : (o : Option ℕ) → told (verdictOf o) ≡ settled n (countRefusal (m .body .0) (countBytes w) o)
       told-is none = refl
       told-is (some i) = refl
 
       pub bodies-counted : (body : List ℕ) → body ≡ bodyOf m → (v w : Verdict) → v ≡ verdictOf (faultOf body) → v ≡ w → told w ≡ answer
       bodies-counted body b v w j q =
           ap told (sym q ∙ j ∙ ap (λ (l : List ℕ). verdictOf (faultOf l)) b) ∙ told-is (faultOf (bodyOf m)) ∙ sym counted
+
+      -- the count at fault, of x bytes, is in the stream
+      pub bodies-within : (x : ℕ) → x ≡ countBytes w → (body : List ℕ) → body ≡ bodyOf m → (v : Verdict) (i : ℕ) → v ≡ verdictOf (faultOf body)
+          → v ≡ W.Fault i → m .body .0 + x * i ≤ length s
+      bodies-within x k body b v i j q =
+          let h = within-told (countBytes w) body (faultOf body) i (fault-within (countBytes w) body (children 1 (rest 1 s (m .next .0)))) (sym q ∙ j) in
+          rw k (omega (arith, h, ap length b, length-17, pre .1 .1))
 
 -- ---- the two records: 16, 16
 

@@ -2,15 +2,16 @@
 use Prim.Native.Nat.{ℕ, zero, suc, _+_, _-_, _*_, _≤_, _<_}
 use native.Mathlib.Omega.{arith}
 use native.Mathlib.Numerals.{add-one}
-use native.Mathlib.Nat.{zero-add, add-zero, sub-zero, mul-suc}
+use native.Mathlib.Decide.{decLe}
+use native.Mathlib.Nat.{lt-of-not-le, zero-add, add-zero, sub-zero, mul-suc, mul-add}
 use mathlib.Core.Path.{_≡_, refl, sym, ap, _∙_}
 use mathlib.Core.Bool.{Bool, true, false, not, cond}
 use mathlib.Core.Option.{Option, none, some}
 use mathlib.Core.List.{List, [], _∷_}
-use lib.Dec.{eqb}
+use lib.Dec.{ltb, eqb}
 use lib.ListN.{length, getD, take, drop, drop-of-length-le}
 use lib.Seq.{drop-cons}
-use borrow.Author.Tests.{le-leb, lt-leb, lt-ltb, le-ltb}
+use borrow.Author.Tests.{le-leb, lt-leb, leb-true, lt-ltb, le-ltb, ltb-false}
 use Rattle.numbers.specs.Little.{little, span}
 use Rattle.numbers.proofs.LittleLaws.{part-rest}
 use Rattle.records.specs.Records.{Rec}
@@ -182,3 +183,66 @@ module _ (w : ℕ) (body : List ℕ) (kids : List Rec) where
       → verdictOf (unmatched w body kids groups) ≡ verdictOf (countFault w body kids)
   unfolding countFault
   fault-unmatched v e z = fault-by (negativeFrom w body 0 16) (unmatched w body kids groups) v e z
+
+-- ---- the count at fault is in the body
+
+-- a count, if there is one, that begins in the body or at its end
+abbrev pub Within : ℕ → List ℕ → Option ℕ → Type 0
+Within w body none = Unit {0}
+Within w body (some i) = w * i ≤ length body
+
+span-some : (w : ℕ) → 0 < span w
+unfolding span
+span-some zero = omega arith
+span-some (suc w) = omega (arith, span-some w)
+
+module _ (w : ℕ) (body : List ℕ) where
+  -- a count that is not there is not negative
+  negative-there : (i : ℕ) → negative w (countAt w body i) ≡ true → w * i ≤ length body
+  unfolding negative
+  negative-there i e = elim (decLe (length body) (w * i)) [
+    | yes h ↦ absurd (omega (arith, span-some w, leb-true (span w) (2 * countAt w body i) e, count-absent w body i h))
+    | no g ↦ omega (arith, lt-of-not-le g)
+  ]
+
+  negative-within : (i k : ℕ) → Within w body (negativeFrom w body i k)
+  unfolding negativeFrom
+  negative-within i zero = tt
+  negative-within i (suc k) = by (negative w (countAt w body i)) refl (negative-within (i + 1) k)
+    where
+      by : (b : Bool) → negative w (countAt w body i) ≡ b → Within w body (negativeFrom w body (i + 1) k) → Within w body (cond b (some i) (negativeFrom w body (i + 1) k))
+      by true e further = negative-there i e
+      by false e further = further
+
+  module _ (kids : List Rec) where
+    -- a group that is not all there is matched
+    unmatched-there : (g : Group) → matched w body kids g ≡ false → w * g .first ≤ length body
+    unfolding matched
+    unmatched-there g e = by (ltb (length body) (w * (g .first + g .many))) refl e
+      where
+        by : (b : Bool) → ltb (length body) (w * (g .first + g .many)) ≡ b → cond b true (eqb (sumFrom w body (g .first) (g .many)) (tally (g .tag) kids)) ≡ false
+            → w * g .first ≤ length body
+        by true q z = absurd (let y : _≡_ {A = ℕ} 0 1 = cc in omega arith)
+        by false q z = omega (arith, ltb-false (length body) (w * (g .first + g .many)) q, mul-add w (g .first) (g .many))
+
+    unmatched-within : (gs : List Group) → Within w body (unmatched w body kids gs)
+    unfolding unmatched
+    unmatched-within [] = tt
+    unmatched-within (g ∷ gs) = by (matched w body kids g) refl (unmatched-within gs)
+      where
+        by : (b : Bool) → matched w body kids g ≡ b → Within w body (unmatched w body kids gs) → Within w body (cond b (unmatched w body kids gs) (some (g .first)))
+        by true e further = further
+        by false e further = unmatched-there g e
+
+    either-within : (o y : Option ℕ) → Within w body o → Within w body y → Within w body (orElse o y)
+    unfolding orElse
+    either-within none y h k = k
+    either-within (some i) y h k = h
+
+    pub fault-within : Within w body (countFault w body kids)
+    unfolding countFault
+    fault-within = either-within (negativeFrom w body 0 16) (unmatched w body kids groups) (negative-within 0 16) (unmatched-within groups)
+
+  pub within-told : (o : Option ℕ) (i : ℕ) → Within w body o → W.Fault i ≡ verdictOf o → w * i ≤ length body
+  within-told none i h e = absurd (let z : _≡_ {A = ℕ} 0 1 = cc in omega arith)
+  within-told (some j) i h e = let same : i ≡ j = cc in rw same h

@@ -34,7 +34,7 @@ module _ (s : List ℕ) (bs : Bytes s) (at cap : ℕ) (r : Rec) (rs : List Rec) 
       let next = walk-rec d in
       let same : d .rec ≡ r = cc in
       let left : rest (d .rec .level + 1) s (at + size (d .rec)) ≡ rs = cc in
-      rw (← same, ← left) (record { inside = omega (arith, d .inside); is = rw (walk-body d) refl; left = refl })
+      rw (← same, ← left) (record { inside = (refl, omega (arith, d .inside)); is = rw (walk-body d) refl; left = refl })
 
   -- nothing is left where no record stands
   begins-not : rest cap s at ≡ [] → Begins s at r rs
@@ -42,7 +42,7 @@ module _ (s : List ℕ) (bs : Bytes s) (at cap : ℕ) (r : Rec) (rs : List Rec) 
 
   begins-by : (x : Ahead) → aheadOf cap s at ≡ x → Begins s at r rs
   begins-by (N.Record k) q = begins-here k (here s at cap bs k q)
-  begins-by (N.Refused f) q = begins-not (ap (λ (y : Read). y .recs) (stops-here s at cap f q))
+  begins-by (N.Refused f) q = begins-not (ap (λ (y : Read). y .recs) (stops-here s at cap f q .reads))
   begins-by N.End q = begins-not (ap (λ (y : Read). y .recs) (ends-here s at cap q))
 
   begins : Begins s at r rs

@@ -23,7 +23,7 @@ use Rattle.records.specs.declared.fault.Answer.the-variants as A
 use Rattle.records.proofs.ParentLaws.{children-exactly, lawful-behind}
 use Rattle.records.proofs.AnswerLaws.{judged-accepted}
 use Rattle.records.proofs.Reader.{IsStream, accepted-stream, stream-records, stream-accepted}
-use Rattle.docinfo.specs.Only.{Located, tagged, Only, one, wrong, onlyOf, only}
+use Rattle.docinfo.specs.Only.{Located, bodyPlace, tagged, Only, one, wrong, onlyOf, only}
 use Rattle.docinfo.specs.Widths.{countBytes, formOf}
 use Rattle.docinfo.specs.declared.widths.Width.the-variants as N
 use Rattle.docinfo.specs.declared.widths.Form.{Form}
@@ -108,15 +108,15 @@ module _ (m : Located) where
   abbrev kids : List Rec
   kids = children 1 (m .behind)
 
-  counts-none : (o : Option ℕ) → countRefusal (m .at) o ≡ none → o ≡ none
-  counts-none none e = refl
-  counts-none (some i) e = absurd (let z : _≡_ {A = ℕ} 0 1 = cc in omega arith)
+  counts-none : (w : ℕ) (o : Option ℕ) → countRefusal (bodyPlace m) w o ≡ none → o ≡ none
+  counts-none w none e = refl
+  counts-none w (some i) e = absurd (let z : _≡_ {A = ℕ} 0 1 = cc in omega arith)
 
   mappings-hold : (f : Form) → Formed (length (m .it .body)) f → mappingsFault m f ≡ none → MappingsHold (m .it .body) kids
   unfolding kidsOf countBytes
   mappings-hold M.Neither k e = absurd (let z : _≡_ {A = ℕ} 0 1 = cc in omega arith)
-  mappings-hold (M.Counts N.Bits16) k e = of-16-bits k (counts-hold kids (counted-16 (m .it .body) k) (counts-none _ e))
-  mappings-hold (M.Counts N.Bits32) k e = of-32-bits (k .0) (k .1) (counts-hold kids (counted-32 (m .it .body) (k .0) (k .1)) (counts-none _ e))
+  mappings-hold (M.Counts N.Bits16) k e = of-16-bits k (counts-hold kids (counted-16 (m .it .body) k) (counts-none _ _ e))
+  mappings-hold (M.Counts N.Bits32) k e = of-32-bits (k .0) (k .1) (counts-hold kids (counted-32 (m .it .body) (k .0) (k .1)) (counts-none _ _ e))
 
   mappings-fine : MappingsHold (m .it .body) kids → mappingsFault m (formOf (length (m .it .body))) ≡ none
   unfolding kidsOf countBytes

@@ -1,5 +1,5 @@
 -- What the DocInfo read answers (document 01, 'DocInfo', numbers 16 to 18 and 'Order'; document 02, A4).
-use Prim.Native.Nat.{ℕ}
+use Prim.Native.Nat.{ℕ, _+_, _*_}
 use mathlib.Core.Bool.{cond}
 use mathlib.Core.Option.{Option, none, some}
 use mathlib.Core.List.{List}
@@ -13,7 +13,7 @@ use Rattle.records.specs.declared.fault.Fault.{Fault}
 use Rattle.records.specs.declared.fault.Fault.the-variants as F
 use Rattle.records.specs.declared.fault.Refusal.{Refusal}
 use Rattle.records.specs.declared.fault.Answer.{Answer}
-use Rattle.docinfo.specs.Only.{Located, Only, one, wrong, only}
+use Rattle.docinfo.specs.Only.{Located, bodyPlace, Only, one, wrong, only}
 use Rattle.docinfo.specs.Widths.{countBytes, formOf}
 use Rattle.docinfo.specs.Counts.{countFault}
 use Rattle.docinfo.specs.declared.widths.Form.{Form}
@@ -26,15 +26,15 @@ faultAt f p = some (record { fault = f; place = record { 0 = p } })
 unfoldable pub kidsOf : Located → List Rec
 kidsOf m = children 1 (m .behind)
 
--- 18 at record 17, where a count is at fault
-abbrev pub countRefusal : ℕ → Option ℕ → Option Refusal
-countRefusal p none = none
-countRefusal p (some i) = faultAt F.CountUnmatched p
+-- 18 at the count at fault, the first byte of w, where the body begins at p (document 02, A12)
+abbrev pub countRefusal : ℕ → ℕ → Option ℕ → Option Refusal
+countRefusal p w none = none
+countRefusal p w (some i) = faultAt F.CountUnmatched (p + w * i)
 
 -- 17 for record 17, where its length holds no counts, and 18
 abbrev pub mappingsFault : Located → Form → Option Refusal
 mappingsFault m M.Neither = faultAt F.DocInfoLength (m .at)
-mappingsFault m (M.Counts w) = countRefusal (m .at) (countFault (countBytes w) (m .it .body) (kidsOf m))
+mappingsFault m (M.Counts w) = countRefusal (bodyPlace m) (countBytes w) (countFault (countBytes w) (m .it .body) (kidsOf m))
 
 -- 17 for record 16, which has 30 bytes or more, and then record 17
 unfoldable pub bodiesFault : Located → Located → Option Refusal

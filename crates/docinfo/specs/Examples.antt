@@ -65,30 +65,33 @@ examples =
     ∷ record { recs = mappings 2 (zeros 15) ∷ properties 30 ∷ []; gets = 17; at = 0 }
     ∷ record { recs = mappings 2 (zeros 17) ∷ properties 30 ∷ []; gets = 17; at = 0 }
     -- counts: negative, unmatched, a grandchild, a child of another record
-    ∷ record { recs = properties 30 ∷ mappings 2 (zeros 15 ++ (65535 ∷ [])) ∷ []; gets = 18; at = 34 }
-    ∷ record { recs = properties 30 ∷ mappings 2 (32768 ∷ zeros 15) ∷ []; gets = 18; at = 34 }
-    ∷ record { recs = properties 30 ∷ mappings 2 (zeros 16) ∷ bare 18 1 ∷ []; gets = 18; at = 34 }
-    ∷ record { recs = properties 30 ∷ mappings 2 (1 ∷ zeros 15) ∷ bare 40 1 ∷ bare 18 2 ∷ []; gets = 18; at = 34 }
-    ∷ record { recs = properties 30 ∷ bare 18 1 ∷ mappings 2 (1 ∷ zeros 15) ∷ bare 40 0 ∷ bare 18 1 ∷ []; gets = 18; at = 38 }
+    ∷ record { recs = properties 30 ∷ mappings 2 (zeros 15 ++ (65535 ∷ [])) ∷ []; gets = 18; at = 68 }
+    ∷ record { recs = properties 30 ∷ mappings 2 (32768 ∷ zeros 15) ∷ []; gets = 18; at = 38 }
+    ∷ record { recs = properties 30 ∷ mappings 2 (zeros 16) ∷ bare 18 1 ∷ []; gets = 18; at = 38 }
+    ∷ record { recs = properties 30 ∷ mappings 2 (1 ∷ zeros 15) ∷ bare 40 1 ∷ bare 18 2 ∷ []; gets = 18; at = 38 }
+    ∷ record { recs = properties 30 ∷ bare 18 1 ∷ mappings 2 (1 ∷ zeros 15) ∷ bare 40 0 ∷ bare 18 1 ∷ []; gets = 18; at = 42 }
     -- other children are carried unexamined
     ∷ record { recs = properties 30 ∷ bare 18 1 ∷ mappings 2 (zeros 16) ∷ bare 27 1 ∷ bare 40 0 ∷ bare 18 1 ∷ []; gets = 0; at = 0 }
     -- 32-bit counts (document 02, A4): the sixteenth is not asked where it is not there, and later ones are ignored
     ∷ record { recs = mappings 4 (zeros 15) ∷ bare 92 1 ∷ properties 30 ∷ []; gets = 0; at = 0 }
-    ∷ record { recs = mappings 4 (zeros 16) ∷ bare 92 1 ∷ properties 30 ∷ []; gets = 18; at = 0 }
+    ∷ record { recs = mappings 4 (zeros 16) ∷ bare 92 1 ∷ properties 30 ∷ []; gets = 18; at = 64 }
     ∷ record { recs = mappings 4 (zeros 15 ++ (1 ∷ 4294967295 ∷ 2147483648 ∷ [])) ∷ bare 92 1 ∷ properties 30 ∷ []; gets = 0; at = 0 }
     ∷ record { recs = mappings 4 (0 ∷ 1 ∷ zeros 5 ++ (1 ∷ zeros 7)) ∷ bare 19 1 ∷ bare 19 1 ∷ properties 30 ∷ []; gets = 0; at = 0 }
     -- eight counts of four bytes are 32 bytes, and so sixteen of two
     ∷ record { recs = mappings 4 (1 ∷ zeros 7) ∷ bare 18 1 ∷ properties 30 ∷ []; gets = 0; at = 0 }
     ∷ record { recs = mappings 4 (0 ∷ 1 ∷ zeros 6) ∷ bare 19 1 ∷ properties 30 ∷ []; gets = 0; at = 0 }
-    ∷ record { recs = mappings 4 (zeros 7 ++ (1 ∷ [])) ∷ properties 30 ∷ []; gets = 18; at = 0 }
+    ∷ record { recs = mappings 4 (zeros 7 ++ (1 ∷ [])) ∷ properties 30 ∷ []; gets = 18; at = 32 }
     -- every other length
     ∷ record { recs = mappings 4 (zeros 9) ∷ properties 30 ∷ []; gets = 17; at = 0 }
     ∷ record { recs = mappings 4 (zeros 14) ∷ properties 30 ∷ []; gets = 17; at = 0 }
     ∷ record { recs = mappings 2 (zeros 31) ∷ properties 30 ∷ []; gets = 17; at = 0 }
     -- at the sign bit, and a sum of 2 to the power 32
-    ∷ record { recs = mappings 4 (2147483648 ∷ zeros 14) ∷ properties 30 ∷ []; gets = 18; at = 0 }
-    ∷ record { recs = mappings 4 (zeros 15 ++ (4294967295 ∷ [])) ∷ properties 30 ∷ []; gets = 18; at = 0 }
-    ∷ record { recs = mappings 4 (0 ∷ replicate 4 1073741824 ++ zeros 10) ∷ properties 30 ∷ []; gets = 18; at = 0 }
+    ∷ record { recs = mappings 4 (2147483648 ∷ zeros 14) ∷ properties 30 ∷ []; gets = 18; at = 4 }
+    ∷ record { recs = mappings 4 (zeros 15 ++ (4294967295 ∷ [])) ∷ properties 30 ∷ []; gets = 18; at = 64 }
+    ∷ record { recs = mappings 4 (0 ∷ replicate 4 1073741824 ++ zeros 10) ∷ properties 30 ∷ []; gets = 18; at = 8 }
+    -- a negative count before any group that is not matched, and of counts 1 to 7 the first (document 02, A12)
+    ∷ record { recs = mappings 2 (1 ∷ zeros 8 ++ (32768 ∷ zeros 6)) ∷ properties 30 ∷ []; gets = 18; at = 22 }
+    ∷ record { recs = mappings 2 (zeros 7 ++ (1 ∷ zeros 8)) ∷ properties 30 ∷ []; gets = 18; at = 6 }
     ∷ []
 
 pub all-right : T (allRight examples)

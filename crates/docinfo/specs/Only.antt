@@ -1,10 +1,11 @@
 -- The only record with a tag, at level 0 (document 01, 'DocInfo', and number 16).
 use Prim.Native.Nat.{ℕ, _+_, _≤_}
+use mathlib.Core.Path.{_≡_}
 use mathlib.Core.Bool.{cond}
 use mathlib.Core.List.{List, [], _∷_}
 use lib.Dec.{eqb}
 use lib.ListN.{length, take, drop}
-use Rattle.records.specs.Records.{Rec, size}
+use Rattle.records.specs.Records.{Rec, leadOf, size}
 use Rattle.records.specs.Parents.{keepIf}
 use Rattle.records.specs.Reading.{offset, recordAt, readFrom}
 use Rattle.records.specs.declared.header.Record.{Record}
@@ -18,6 +19,10 @@ pub record Located : Type 0 where
   pub at : ℕ
   pub it : Rec
   pub behind : List Rec
+
+-- the place of its body
+abbrev pub bodyPlace : Located → ℕ
+bodyPlace p = p .at + leadOf (length (p .it .body))
 
 -- the records with a tag, in stream order, where the first header stands at `at`
 unfoldable pub tagged : ℕ → ℕ → List Rec → List Located
@@ -61,6 +66,6 @@ locatedAt s r =
       behind = readFrom (r .level + 1) 0 (drop (r .next .0) s) .recs;
     }
 
--- its last byte is in the stream
+-- its body is behind its header, and its last byte is in the stream
 abbrev pub InStream : List ℕ → Record → Type 0
-InStream s r = r .body .0 + r .len ≤ length s
+InStream s r = (r .body .0 ≡ r .at .0 + leadOf (r .len)) × (r .body .0 + r .len ≤ length s)

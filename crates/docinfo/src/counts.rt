@@ -139,7 +139,7 @@ fn is_matched(s: &[u8], body: &[u8], width: Width, behind: Offset, g: Group) -> 
 }
 
 // The first count of the first group that is not matched by the children among the records from `behind` on.
-fn first_unmatched(s: &[u8], body: &[u8], width: Width, behind: Offset) -> Verdict
+pub fn first_unmatched(s: &[u8], body: &[u8], width: Width, behind: Offset) -> Verdict
     ensures { λ r. ⌜ r ≡ verdictOf (unmatched (countBytes width) (now (body .entry)) (children 1 (readFrom 1 0 (drop (behind .0) (now (s .entry))) .recs)) groups) ⌝ }
 {
     let mut i: usize = 0;

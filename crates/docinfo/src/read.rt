@@ -4,10 +4,12 @@ use crate::counts::judge_counts;
 use crate::seek::Sole;
 use crate::seek::only;
 use crate::widths::Form;
+use crate::widths::count_bytes;
 use crate::widths::form_of;
 use numbers::part;
 use records::Answer;
 use records::Fault;
+use records::Offset;
 use records::Record;
 use records::refused;
 ghost use mathlib.Core.Path.{_≡_};
@@ -31,7 +33,10 @@ fn judge_bodies(s: &[u8], n: usize, properties: Record, mappings: Record) -> Ans
     let body = mappings.body;
     match judge_counts(s, part(s, body.0, mappings.len), width, mappings.next) {
         Verdict::Sound => Answer::Accepted(n),
-        Verdict::Fault(_) => refused(Fault::CountUnmatched, mappings.at),
+        Verdict::Fault(i) => {
+            let wrong = body.0 + count_bytes(width) * i;
+            refused(Fault::CountUnmatched, Offset(wrong))
+        }
     }
 }
 

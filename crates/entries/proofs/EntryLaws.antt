@@ -1,11 +1,13 @@
 -- The passes over shapes and marks: what is still to be judged, and one law for each way that it goes on. Assumes nothing.
 use Prim.Native.Nat.{ℕ, zero, suc, _+_, _-_, _*_, _/_, _≤_, _<_, max}
 use native.Mathlib.Omega.{arith}
-use native.Mathlib.Nat.{sub-zero}
-use mathlib.Core.Path.{_≡_, refl, sym, ap, _∙_}
-use mathlib.Core.Option.{none}
+use native.Mathlib.Nat.{zero-add, sub-zero}
+use mathlib.Core.Path.{_≡_, refl, sym, ap, _∙_, subst}
+use mathlib.Core.Bool.{Bool, true, false, cond, _&&_}
+use mathlib.Core.Option.{Option, none, some}
 use mathlib.Core.List.{List, [], _∷_, map}
-use lib.ListN.{length, drop}
+use lib.Dec.{ltb, leb, eqb}
+use lib.ListN.{length, drop, length-map}
 use lib.Seq.{drop-drop}
 use borrow.Author.Tests.{le-leb, lt-leb, lt-ltb, le-ltb, eq-eqb, ne-eqb}
 use Rattle.numbers.specs.Little.{little}
@@ -114,3 +116,49 @@ module _ {b : List ℕ} {count n i : ℕ} (k : Marking b count n i) where
   pub marking-end : n ≤ i → E.Sound ≡ entriesOf (marksFault count b)
   unfolding markFault
   marking-end h = sym (ap entriesOf (k .rest ∙ ap (markFault i count) (entries-end 12 n i b h)))
+
+-- ---- the entry at fault is one of the body's
+
+-- an index, if there is one, below n
+abbrev pub Under : ℕ → Option ℕ → Type 0
+Under n none = Unit {0}
+Under n (some i) = i < n
+
+-- the first at fault of an entry and those behind it
+under-next : (t : Bool) (i n : ℕ) (rest : Option ℕ) → Under (i + 1 + n) rest → Under (i + suc n) (cond t rest (some i))
+under-next true i n none h = tt
+under-next true i n (some j) h = omega arith
+under-next false i n rest h = omega arith
+
+later-under : (i before bound : ℕ) (ss : List ℕ) → Under (i + length ss) (laterFault i before bound ss)
+unfolding laterFault
+later-under i before bound [] = tt
+later-under i before bound (s ∷ ss) = under-next (ltb before s && ltb s bound) i (length ss) _ (later-under (i + 1) s bound ss)
+
+start-under : (bound : ℕ) (ss : List ℕ) → Under (length ss) (startFault bound ss)
+unfolding startFault
+start-under bound [] = tt
+start-under bound (s ∷ ss) = simp zero-add at (under-next (eqb s 0) 0 (length ss) (laterFault 1 s bound ss) (later-under 1 s bound ss))
+
+mark-under : (i count : ℕ) (es : List (List ℕ)) → Under (i + length es) (markFault i count es)
+unfolding markFault
+mark-under i count [] = tt
+mark-under i count (e ∷ es) = under-next (leb (little 4 e) (little 4 (drop 4 e)) && leb (little 4 (drop 4 e)) count) i (length es) _ (mark-under (i + 1) count es)
+
+pub length-entries : (w n : ℕ) (b : List ℕ) → length (entries w n b) ≡ n
+unfolding entries
+length-entries w zero b = refl
+length-entries w (suc n) b = ap suc (length-entries w n (drop w b))
+
+pub shapes-under : (count : ℕ) (b : List ℕ) → Under (length b / 8) (shapesFault count b)
+unfolding shapesFault
+shapes-under count b =
+    let es = entries 8 (length b / 8) b in
+    subst (λ (n : ℕ). Under n (startFault (max 1 count) (map (little 4) es))) (length-map es (little 4) ∙ length-entries 8 (length b / 8) b)
+    (start-under (max 1 count) (map (little 4) es))
+
+pub marks-under : (count : ℕ) (b : List ℕ) → Under (length b / 12) (marksFault count b)
+unfolding marksFault
+marks-under count b =
+    let es = entries 12 (length b / 12) b in
+    subst (λ (n : ℕ). Under n (markFault 0 count es)) (length-entries 12 (length b / 12) b) (simp zero-add at (mark-under 0 count es))

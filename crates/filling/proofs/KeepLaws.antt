@@ -1,6 +1,6 @@
 -- A fill of a paragraph that keeps document 01's sentences (`acceptance`, Keeps) leaves one that keeps them. Assumes nothing.
 use mathlib.Core.Path.{_≡_, refl, sym, ap, _∙_, subst}
-use Prim.Native.Nat.{ℕ, zero, suc, _+_, _*_, _-_, _/_, _%_, _≤_, _<_, max}
+use Prim.Native.Nat.{ℕ, suc, _+_, _*_, _-_, _/_, _%_, _≤_, _<_, max}
 use native.Mathlib.Omega.{arith}
 use mathlib.Core.Bool.{Bool, true, false, cond, _&&_}
 use mathlib.Core.Option.{Option, none, some}
@@ -17,6 +17,7 @@ use Rattle.text.proofs.UnitLaws.{length-units}
 use Rattle.text.proofs.PartLaws.{leftOver, shift, singles, tokens-parts, tokens-replaced, extended-kept, sound-kept}
 use Rattle.paragraph.specs.View.{View, child, controls}
 use Rattle.entries.specs.Entries.{entries}
+use Rattle.entries.proofs.EntryLaws.{length-entries}
 use Rattle.paragraph.specs.Rules.{countsOf, bytesIn, ownerOf, codeBefore, codesIn}
 use Rattle.paragraph.specs.declared.finding.Counts.{Counts}
 use Rattle.paragraph.specs.declared.fields.Owner.{Owner}
@@ -202,11 +203,6 @@ after-some : (a b v n : ℕ) (l : List Entry) → 0 < a → StartsFrom 0 1 n l �
 unfolding shapesAfter inside
 after-some a b v n [] z s h = h
 after-some a b v n (e ∷ l) z s h = rw (lt-leb a (e .start) (omega (arith, s .1))) (omega arith)
-
-length-entries : (w n : ℕ) (b : List ℕ) → length (entries w n b) ≡ n
-unfolding entries
-length-entries w zero b = refl
-length-entries w (suc n) b = ap suc (length-entries w n (drop w b))
 
 pub length-shapes : (b : List ℕ) → length (shapesIn b) ≡ length b / 8
 unfolding shapesIn

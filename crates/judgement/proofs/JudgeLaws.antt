@@ -1,7 +1,6 @@
 -- A paragraph judged from the stream is judged by its view. Assumes nothing.
-use Prim.Native.Nat.{ℕ, suc, _+_, _-_, _≤_, _<_}
+use Prim.Native.Nat.{ℕ, suc, _+_, _≤_, _<_}
 use native.Mathlib.Omega.{arith}
-use native.Mathlib.Numerals.{add-one}
 use mathlib.Core.Path.{_≡_, refl, sym, ap, ap₂, _∙_}
 use mathlib.Core.Bool.{Bool, true, false, not}
 use mathlib.Core.Option.{Option, none, some}
@@ -10,14 +9,12 @@ use lib.ListN.{length, drop}
 use borrow.Author.Tests.{lt-ltb, le-ltb, eq-eqb, ne-eqb}
 use Rattle.numbers.specs.Little.{Bytes}
 use Rattle.records.specs.Records.{Rec}
-use Rattle.records.specs.Reading.{offset}
-use Rattle.records.specs.declared.fault.Offset.{Offset}
 use Rattle.records.specs.declared.fault.Fault.{Fault}
 use Rattle.records.specs.declared.fault.Fault.the-variants as F
 use Rattle.records.specs.declared.header.Record.{Record}
 use Rattle.text.specs.Units.{units}
 use Rattle.text.specs.Walk.{Token, tokens, walk, isExtended, extendedIn, extendedCount, fault, faultAt, textFault}
-use Rattle.text.specs.Answers.{verdict, judged}
+use Rattle.text.specs.Answers.{position, verdict, judged}
 use Rattle.text.specs.declared.Class.{Class}
 use Rattle.text.specs.declared.Class.the-variants.{Character, Inline, Extended}
 use Rattle.text.specs.declared.Position.{Position}
@@ -27,18 +24,19 @@ use Rattle.text.specs.declared.Judged.{Judged}
 use Rattle.text.specs.declared.Judged.the-variants as judgement
 use Rattle.paragraph.specs.View.{kids, view, child, controls}
 use Rattle.paragraph.specs.Stream.{recordsIn}
-use Rattle.paragraph.specs.Rules.{orElse, ofHeader, ofChild, lengthsOf, absent, lengthFault, isSome, textBroken, bytesIn, entryFault, ownerOf, codeBefore, codesIn, fieldFault, controlFault, bodyFault, countsOf, partsFault, headFault, paragraphFault, firstFault}
-use Rattle.paragraph.specs.Places.{foundIn, bodyOf, bodyFound, partsIn, lengthsFound, textJudged, placeFound, childPlace}
+use Rattle.paragraph.specs.Rules.{orElse, ofHeader, unitOf, lengthsOf, absent, lengthFault, unitBroken, bytesIn, entryFault, ownerOf, codeBefore, codesIn, fieldFault, controlFault, bodyFault, countsOf, partsFault, headFault, paragraphFault, firstFault}
+use Rattle.paragraph.specs.Places.{foundIn, bodyOf, bodyFound, partsIn, lengthsFound, textJudged, childIn}
 use Rattle.paragraph.specs.declared.children.Parts.{Parts}
 use Rattle.paragraph.specs.declared.children.Found.{Found}
 use Rattle.paragraph.specs.declared.children.Found.the-variants as P
 use Rattle.paragraph.specs.declared.finding.Counts.{Counts}
 use Rattle.paragraph.specs.declared.finding.Which.{Which}
+use Rattle.paragraph.specs.declared.finding.Which.the-variants as W
 use Rattle.paragraph.specs.declared.finding.Finding.{Finding}
 use Rattle.paragraph.specs.declared.finding.Finding.the-variants as G
 use Rattle.paragraph.proofs.StreamLaws.{Read}
 use Rattle.paragraph.proofs.BodyLaws.{child-found, length-found}
-use Rattle.judgement.proofs.RuleLaws.{guard-taken, guard-left, else-next}
+use Rattle.judgement.proofs.RuleLaws.{guard-taken, guard-left, at-taken, at-left, else-next}
 
 -- a breach stays
 pub else-breach : {a : Finding} (rest : Finding) (f : Fault) (w : Which) → a ≡ G.Breach f w → G.Breach f w ≡ orElse a rest
@@ -88,7 +86,7 @@ sound-fault [] e = absurd (let z : _≡_ {A = ℕ} 0 1 = cc in omega arith)
 sound-fault (u ∷ us) e = e
 
 pub record SoundBody (text : Option (List ℕ)) (b : List ℕ) (extended : ℕ) : Type 0 where
-  pub unbroken : textBroken text ≡ false
+  pub unbroken : unitBroken text ≡ none
   pub fault-none : faultAt (units b) 0 ≡ none
   pub extended-is : extended ≡ extendedCount (units b)
 
@@ -96,9 +94,9 @@ sound-verdict : (us : List ℕ) (o : Option ℕ) (n m : ℕ) → verdict o n ≡
 sound-verdict us none n m e = (refl, cc)
 sound-verdict us (some p) n m e = absurd (let z : _≡_ {A = ℕ} 0 1 = cc in omega arith)
 
-broken-verdict : (o : Option ℕ) (n : ℕ) (p : Position) → verdict o n ≡ judgement.Broken p → isSome o ≡ true
+broken-verdict : (o : Option ℕ) (n : ℕ) (p : Position) → verdict o n ≡ judgement.Broken p → o ≡ some (p .0)
 broken-verdict none n p e = absurd (let z : _≡_ {A = ℕ} 0 1 = cc in omega arith)
-broken-verdict (some q) n p e = refl
+broken-verdict (some q) n p e = let z : position q ≡ p = cc in ap (λ (x : Position). some (x .0)) z
 
 module _ (s : List ℕ) where
   sound-by : (f : Found) (b : List ℕ) (m : ℕ) → b ≡ bytesIn (bodyFound s f) → textJudged f b ≡ judgement.Sound m → SoundBody (bodyFound s f) b m
@@ -106,7 +104,7 @@ module _ (s : List ℕ) where
   sound-by (P.At p) b m e q =
       let v = sound-verdict (units b) (textFault (units b)) (extendedCount (units b)) m q in
       record {
-        unbroken = ap (λ (l : List ℕ). isSome (textFault (units l))) (sym e) ∙ ap isSome (v .0);
+        unbroken = ap (λ (l : List ℕ). textFault (units l)) (sym e) ∙ v .0;
         fault-none = sound-fault (units b) (v .0);
         extended-is = v .1;
       }
@@ -114,35 +112,35 @@ module _ (s : List ℕ) where
       let z : m ≡ 0 = cc in
       record { unbroken = refl; fault-none = rw e; extended-is = z ∙ rw e }
 
-  broken-by : (f : Found) (b : List ℕ) (p : Position) → b ≡ bytesIn (bodyFound s f) → textJudged f b ≡ judgement.Broken p → textBroken (bodyFound s f) ≡ true
+  broken-by : (f : Found) (b : List ℕ) (p : Position) → b ≡ bytesIn (bodyFound s f) → textJudged f b ≡ judgement.Broken p → unitBroken (bodyFound s f) ≡ some (p .0)
   unfolding judged
   broken-by (P.At p) b x e q =
-      ap (λ (l : List ℕ). isSome (textFault (units l))) (sym e) ∙ broken-verdict (textFault (units b)) (extendedCount (units b)) x q
+      ap (λ (l : List ℕ). textFault (units l)) (sym e) ∙ broken-verdict (textFault (units b)) (extendedCount (units b)) x q
   broken-by P.Nothing b x e q = absurd (let z : _≡_ {A = ℕ} 0 1 = cc in omega arith)
 
   module _ (f : Found) (b : List ℕ) (x : Judged) (e : b ≡ bytesIn (bodyFound s f)) (j : x ≡ textJudged f b) where
     pub text-sound : (m : ℕ) → x ≡ judgement.Sound m → SoundBody (bodyFound s f) b m
     text-sound m q = sound-by f b m e (sym j ∙ q)
 
-    pub text-broken : (p : Position) → x ≡ judgement.Broken p → textBroken (bodyFound s f) ≡ true
+    pub text-broken : (p : Position) → x ≡ judgement.Broken p → unitBroken (bodyFound s f) ≡ some (p .0)
     text-broken p q = broken-by f b p e (sym j ∙ q)
 
 -- ---- 12 to 15, by the bodies
 
 module _ (count : ℕ) (text : Option (List ℕ)) (shapes marks : List ℕ) (bs : List (List ℕ)) where
-  pub body-broken : textBroken text ≡ true → ofChild 67 F.TextRule ≡ bodyFault count text shapes marks bs
+  pub body-broken : (p : Position) → unitBroken text ≡ some (p .0) → G.Breach F.TextRule (W.Unit p) ≡ bodyFault count text shapes marks bs
   unfolding bodyFault
-  body-broken e = guard-taken _ _ e
+  body-broken p e = at-taken F.TextRule unitOf _ (p .0) e
 
-  pub body-entries : (x : Finding) (f : Fault) (w : Which) → textBroken text ≡ false → x ≡ entryFault count shapes marks → x ≡ G.Breach f w
+  pub body-entries : (x : Finding) (f : Fault) (w : Which) → unitBroken text ≡ none → x ≡ entryFault count shapes marks → x ≡ G.Breach f w
       → G.Breach f w ≡ bodyFault count text shapes marks bs
   unfolding bodyFault
-  body-entries x f w e q h = guard-left _ e (else-breach _ f w (sym q ∙ h))
+  body-entries x f w e q h = at-left F.TextRule unitOf e (else-breach _ f w (sym q ∙ h))
 
-  pub body-controls : (x y : Finding) (b : List ℕ) → textBroken text ≡ false → x ≡ entryFault count shapes marks → x ≡ G.Lawful
+  pub body-controls : (x y : Finding) (b : List ℕ) → unitBroken text ≡ none → x ≡ entryFault count shapes marks → x ≡ G.Lawful
       → b ≡ bytesIn text → y ≡ controlFault (units b) bs → y ≡ bodyFault count text shapes marks bs
   unfolding bodyFault
-  body-controls x y b e q h g z = guard-left _ e (else-next (sym q ∙ h) (z ∙ ap (λ (l : List ℕ). controlFault (units l) bs) g))
+  body-controls x y b e q h g z = at-left F.TextRule unitOf e (else-next (sym q ∙ h) (z ∙ ap (λ (l : List ℕ). controlFault (units l) bs) g))
 
 -- ---- 10 to 15, by the records behind the header
 
@@ -219,18 +217,18 @@ module _ (s : List ℕ) (at : ℕ) {r : Record} (d : Read s at r) where
       ∙ ap₂ (λ (b : List ℕ) (m : ℕ). headFault b (kids m (recordsIn (drop (r .next .0) s)))) (d .body-is) next-level
       ∙ ap firstFault (sym (d .records))
 
-  pub front-place : (tag nth : ℕ) (x : Offset) → x ≡ offset (placeFound at (foundIn (r .level + 1) tag nth (r .next .0) (recordsIn (drop (r .next .0) s))))
-      → x ≡ offset (childPlace at (recordsIn (drop at s)) tag nth)
-  unfolding childPlace
-  front-place tag nth x e =
+  pub front-child : (tag nth : ℕ) (x : Found) → x ≡ foundIn (r .level + 1) tag nth (r .next .0) (recordsIn (drop (r .next .0) s))
+      → x ≡ childIn at (recordsIn (drop at s)) tag nth
+  unfolding childIn
+  front-child tag nth x e =
       e
-      ∙ ap₂ (λ (m a : ℕ). offset (placeFound at (foundIn m tag nth a (recordsIn (drop (r .next .0) s))))) next-level (d .next-is)
-      ∙ ap (λ (l : List Rec). offset (childPlace at l tag nth)) (sym (d .records))
+      ∙ ap₂ (λ (m a : ℕ). foundIn m tag nth a (recordsIn (drop (r .next .0) s))) next-level (d .next-is)
+      ∙ ap (λ (l : List Rec). childIn at l tag nth) (sym (d .records))
 
 pub front-none : (s : List ℕ) (at : ℕ) → recordsIn (drop at s) ≡ [] → G.Lawful ≡ firstFault (recordsIn (drop at s))
 unfolding firstFault
 front-none s at e = rw e
 
-pub place-none : (s : List ℕ) (at tag nth : ℕ) → recordsIn (drop at s) ≡ [] → at ≡ childPlace at (recordsIn (drop at s)) tag nth
-unfolding childPlace
-place-none s at tag nth e = rw e
+pub child-none : (s : List ℕ) (at tag nth : ℕ) → recordsIn (drop at s) ≡ [] → P.Nothing ≡ childIn at (recordsIn (drop at s)) tag nth
+unfolding childIn
+child-none s at tag nth e = rw e

@@ -1,7 +1,7 @@
 -- The chain of rules: how a test that holds, and one that does not, leads on. Assumes nothing.
-use Prim.Native.Nat.{ℕ, _-_, _%_}
+use Prim.Native.Nat.{ℕ, _-_, _*_, _/_, _%_, _<_}
 use native.Mathlib.Omega.{arith}
-use mathlib.Core.Path.{_≡_, refl, sym, _∙_}
+use mathlib.Core.Path.{_≡_, refl, sym, ap, _∙_, subst}
 use mathlib.Core.Bool.{Bool, true, false, _||_, not}
 use mathlib.Core.List.{List}
 use mathlib.Core.Option.{Option, none, some}
@@ -9,15 +9,18 @@ use lib.Dec.{leb, eqb}
 use lib.ListN.{length, take, drop}
 use Rattle.numbers.specs.Little.{little}
 use Rattle.numbers.proofs.LittleLaws.{part-rest}
-use Rattle.paragraph.specs.Rules.{countsOf, guard, orElse, ofChild, entryFault, lacks, unwanted, misfits, isSome}
+use Rattle.paragraph.specs.Rules.{countsOf, guard, guardAt, orElse, entryOf, entryFault, lacks, unwanted, misfits}
 use Rattle.entries.specs.Entries.{entriesOf, shapesFault, marksFault}
+use Rattle.entries.proofs.EntryLaws.{Under, shapes-under, marks-under}
 use Rattle.paragraph.specs.Places.{lengthFound}
+use Rattle.records.specs.declared.fault.Fault.{Fault}
 use Rattle.records.specs.declared.fault.Fault.the-variants as F
 use Rattle.records.specs.declared.header.Record.{Record}
 use Rattle.paragraph.specs.declared.children.Found.{Found}
 use Rattle.paragraph.specs.declared.children.Found.the-variants as P
 use Rattle.entries.specs.declared.Entries.{Entries}
 use Rattle.entries.specs.declared.Entries.the-variants as E
+use Rattle.paragraph.specs.declared.finding.Which.{Which}
 use Rattle.paragraph.specs.declared.finding.Finding.{Finding}
 use Rattle.paragraph.specs.declared.finding.Finding.the-variants as G
 
@@ -34,6 +37,14 @@ guard-taken x rest e = rw e
 pub guard-left : {b : Bool} {rest y : Finding} (x : Finding) → b ≡ false → y ≡ rest → y ≡ guard b x rest
 unfolding guard
 guard-left x e q = rw e q
+
+pub at-taken : {o : Option ℕ} (f : Fault) (names : ℕ → Which) (rest : Finding) (i : ℕ) → o ≡ some i → G.Breach f (names i) ≡ guardAt o f names rest
+unfolding guardAt
+at-taken f names rest i e = rw e
+
+pub at-left : {o : Option ℕ} {rest y : Finding} (f : Fault) (names : ℕ → Which) → o ≡ none → y ≡ rest → y ≡ guardAt o f names rest
+unfolding guardAt
+at-left f names e q = rw e q
 
 pub else-next : {a rest y : Finding} → a ≡ G.Lawful → y ≡ rest → y ≡ orElse a rest
 unfolding orElse
@@ -57,18 +68,18 @@ misfits-there number asked f p e = rw e
 
 -- ---- by what a judge of entries answered
 
-wrong-by : (o : Option ℕ) (i : ℕ) → E.Wrong i ≡ entriesOf o → isSome o ≡ true
+wrong-by : (o : Option ℕ) (i : ℕ) → E.Wrong i ≡ entriesOf o → o ≡ some i
 wrong-by none i e = absurd (let z : _≡_ {A = ℕ} 0 1 = cc in omega arith)
-wrong-by (some j) i e = refl
+wrong-by (some j) i e = ap some cc
 
-pub wrong : (x : Entries) (o : Option ℕ) (i : ℕ) → x ≡ entriesOf o → x ≡ E.Wrong i → isSome o ≡ true
+pub wrong : (x : Entries) (o : Option ℕ) (i : ℕ) → x ≡ entriesOf o → x ≡ E.Wrong i → o ≡ some i
 wrong x o i e q = wrong-by o i (sym q ∙ e)
 
-sound-by : (o : Option ℕ) → E.Sound ≡ entriesOf o → isSome o ≡ false
+sound-by : (o : Option ℕ) → E.Sound ≡ entriesOf o → o ≡ none
 sound-by none e = refl
 sound-by (some j) e = absurd (let z : _≡_ {A = ℕ} 0 1 = cc in omega arith)
 
-pub sound : (x : Entries) (o : Option ℕ) → x ≡ entriesOf o → x ≡ E.Sound → isSome o ≡ false
+pub sound : (x : Entries) (o : Option ℕ) → x ≡ entriesOf o → x ≡ E.Sound → o ≡ none
 sound x o e q = sound-by o (sym q ∙ e)
 
 -- ---- the numbers of a header
@@ -81,15 +92,30 @@ counts-are head a b c d e f g h = simp (e, f, g, h, part-rest)
 
 -- ---- 13
 
+-- the entry at fault is one of its body's: w bytes each, and n of them
+index-within : (n i : ℕ) (o : Option ℕ) → Under n o → o ≡ some i → i < n
+index-within n i o u e = subst (Under n) e u
+
 module _ (count : ℕ) (shapes marks : List ℕ) (x y : Entries) (i : ℕ) (is : x ≡ entriesOf (shapesFault count shapes)) where
-  pub entry-shapes : x ≡ E.Wrong i → ofChild 68 F.EntriesWrong ≡ entryFault count shapes marks
-  unfolding entryFault
-  entry-shapes e = guard-taken _ _ (wrong x (shapesFault count shapes) i is e)
+  pub shape-within : x ≡ E.Wrong i → 8 * i < length shapes
+  shape-within e = let h = index-within (length shapes / 8) i (shapesFault count shapes) (shapes-under count shapes) (wrong x (shapesFault count shapes) i is e) in omega arith
 
-  pub entry-marks : x ≡ E.Sound → y ≡ entriesOf (marksFault count marks) → y ≡ E.Wrong i → ofChild 70 F.EntriesWrong ≡ entryFault count shapes marks
+  pub entry-shapes : x ≡ E.Wrong i → G.Breach F.EntriesWrong (entryOf 68 8 i) ≡ entryFault count shapes marks
   unfolding entryFault
-  entry-marks e f g = guard-left _ (sound x (shapesFault count shapes) is e) (guard-taken _ _ (wrong y (marksFault count marks) i f g))
+  entry-shapes e = at-taken F.EntriesWrong (entryOf 68 8) _ i (wrong x (shapesFault count shapes) i is e)
 
-  pub entry-none : x ≡ E.Sound → y ≡ entriesOf (marksFault count marks) → y ≡ E.Sound → G.Lawful ≡ entryFault count shapes marks
-  unfolding entryFault
-  entry-none e f g = guard-left _ (sound x (shapesFault count shapes) is e) (guard-left _ (sound y (marksFault count marks) f g) refl)
+  module _ (f : y ≡ entriesOf (marksFault count marks)) where
+    pub mark-within : y ≡ E.Wrong i → 12 * i < length marks
+    mark-within e = let h = index-within (length marks / 12) i (marksFault count marks) (marks-under count marks) (wrong y (marksFault count marks) i f e) in omega arith
+
+    pub entry-marks : x ≡ E.Sound → y ≡ E.Wrong i → G.Breach F.EntriesWrong (entryOf 70 12 i) ≡ entryFault count shapes marks
+    unfolding entryFault
+    entry-marks e g =
+        at-left F.EntriesWrong (entryOf 68 8) (sound x (shapesFault count shapes) is e)
+        (at-taken F.EntriesWrong (entryOf 70 12) G.Lawful i (wrong y (marksFault count marks) i f g))
+
+    pub entry-none : x ≡ E.Sound → y ≡ E.Sound → G.Lawful ≡ entryFault count shapes marks
+    unfolding entryFault
+    entry-none e g =
+        at-left F.EntriesWrong (entryOf 68 8) (sound x (shapesFault count shapes) is e)
+        (at-left F.EntriesWrong (entryOf 70 12) (sound y (marksFault count marks) f g) refl)

@@ -2,8 +2,8 @@
 use crate::rules::absent;
 use crate::rules::entry_fault;
 use crate::rules::length_fault;
-use crate::rules::of_child;
 use crate::rules::of_header;
+use crate::rules::of_unit;
 use numbers::number16;
 use numbers::number32;
 use paragraph::Counts;
@@ -18,6 +18,7 @@ use paragraph::field_short;
 use paragraph::find;
 use paragraph::find_parts;
 use paragraph::owned_header;
+use paragraph::unit_place;
 use reader::next_control;
 use records::Ahead;
 use records::Fault;
@@ -41,7 +42,7 @@ ghost use Rattle.paragraph.specs.Rules as rules;
 ghost use Rattle.paragraph.specs.declared.finding.Which.the-variants as W;
 ghost use Rattle.paragraph.specs.declared.finding.Finding.the-variants as G;
 ghost use Rattle.records.specs.declared.fault.Fault.the-variants as F;
-ghost use Rattle.paragraph.specs.Places.{bodyFound, textJudged, placeFound, childPlace, placeOf};
+ghost use Rattle.paragraph.specs.Places.{bodyFound, textJudged, placeFound, bodyPlace, childIn, entryPlace, placeOf};
 
 // The numbers in a paragraph header's body, which is long enough.
 fn counts(head: &[u8]) -> Counts
@@ -152,7 +153,7 @@ fn body_fault(s: &[u8], from: Offset, n: u32, count: u32, p: Parts) -> Finding
     let marks = p.marks;
     let units = bytes(s, text);
     match judge_text(text, units) {
-        Judged::Broken(_) => of_child(Kind::TEXT, Fault::TextRule),
+        Judged::Broken(p) => of_unit(p),
         Judged::Sound(extended) => {
             match entry_fault(count, bytes(s, shapes), bytes(s, marks)) {
                 Finding::Breach { fault, which } => Finding::Breach { fault, which },
@@ -207,14 +208,36 @@ fn place_found(other: Offset, f: Found) -> Offset
     }
 }
 
-fn child_place(s: &[u8], at: Offset, tag: u32, nth: usize) -> Offset
-    ensures { λ r. ⌜ r ≡ offset (childPlace (at .0) (recordsIn (drop (at .0) (now (s .entry)))) tag nth) ⌝ }
+fn body_place(other: Offset, f: Found) -> Offset
+    ensures { λ r. ⌜ r ≡ offset (bodyPlace (other .0) f) ⌝ }
+{
+    match f {
+        Found::At(r) => r.body,
+        Found::Nothing => other,
+    }
+}
+
+// The nth child with a tag of the paragraph whose header stands at a place.
+fn child_of(s: &[u8], at: Offset, tag: u32, nth: usize) -> Found
+    ensures { λ r. ⌜ r ≡ childIn (at .0) (recordsIn (drop (at .0) (now (s .entry)))) tag nth ⌝ }
 {
     let Ahead::Record(r) = record_at(s, at, 1023) else {
-        return at;
+        return Found::Nothing;
     };
     let behind = r.next;
-    place_found(at, find(s, behind, r.level + 1, tag, nth))
+    find(s, behind, r.level + 1, tag, nth)
+}
+
+// The place of the entry that begins at an offset of a body; a sum that no number holds is given as the largest.
+fn entry_place(body: Offset, from: Offset) -> Offset
+    ensures { λ r. ⌜ r ≡ entryPlace body from ⌝ }
+{
+    let first = body.0;
+    let within = from.0;
+    if 18446744073709551615 - first < within {
+        return Offset(18446744073709551615);
+    }
+    Offset(first + within)
 }
 
 // The place of what a fault names, in the paragraph whose header stands at a place.
@@ -223,6 +246,14 @@ pub fn place_in(s: &[u8], at: Offset, which: Which) -> Offset
 {
     match which {
         Which::Header => at,
-        Which::Child { tag, nth } => child_place(s, at, tag, nth),
+        Which::Child { tag, nth } => place_found(at, child_of(s, at, tag, nth)),
+        Which::Unit(position) => {
+            let text = body_place(at, child_of(s, at, Kind::TEXT, 0));
+            unit_place(text, position)
+        }
+        Which::Entry { tag, from } => {
+            let body = body_place(at, child_of(s, at, tag, 0));
+            entry_place(body, from)
+        }
     }
 }

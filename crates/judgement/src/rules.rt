@@ -9,9 +9,14 @@ use paragraph::Parts;
 use paragraph::Which;
 use records::Fault;
 use records::Kind;
+use records::Offset;
+use text::Position;
 ghost use mathlib.Core.Path.{_≡_};
 ghost use Rattle.paragraph.specs.Rules as rules;
 ghost use Rattle.paragraph.specs.Places.{lengthFound, lengthsFound};
+ghost use Rattle.paragraph.specs.declared.finding.Which.the-variants as W;
+ghost use Rattle.paragraph.specs.declared.finding.Finding.the-variants as G;
+ghost use Rattle.records.specs.declared.fault.Fault.the-variants as F;
 
 // A fault that names the child with a tag.
 pub fn of_child(tag: u32, fault: Fault) -> Finding
@@ -109,15 +114,35 @@ pub fn length_fault(c: Counts, p: Parts) -> Finding
     Finding::Lawful
 }
 
+// 12 names the unit at a position of the text.
+pub fn of_unit(position: Position) -> Finding
+    ensures { λ r. ⌜ r ≡ G.Breach F.TextRule (W.Unit position) ⌝ }
+{
+    Finding::Breach {
+        fault: Fault::TextRule,
+        which: Which::Unit(position),
+    }
+}
+
+// 13 names the entry that begins at an offset of the body of the child with a tag.
+fn of_entry(tag: u32, from: Offset) -> Finding
+    ensures { λ r. ⌜ r ≡ G.Breach F.EntriesWrong (W.Entry tag from) ⌝ }
+{
+    Finding::Breach {
+        fault: Fault::EntriesWrong,
+        which: Which::Entry { tag, from },
+    }
+}
+
 // 13, shapes and then marks.
 pub fn entry_fault(count: u32, shapes: &[u8], marks: &[u8]) -> Finding
     ensures { λ r. ⌜ r ≡ rules.entryFault count (now (shapes .entry)) (now (marks .entry)) ⌝ }
 {
-    if let Entries::Wrong(_) = judge_shapes(shapes, count) {
-        return of_child(Kind::SHAPES, Fault::EntriesWrong);
+    if let Entries::Wrong(i) = judge_shapes(shapes, count) {
+        return of_entry(Kind::SHAPES, Offset(8 * i));
     }
-    if let Entries::Wrong(_) = judge_marks(marks, count) {
-        return of_child(Kind::MARKS, Fault::EntriesWrong);
+    if let Entries::Wrong(i) = judge_marks(marks, count) {
+        return of_entry(Kind::MARKS, Offset(12 * i));
     }
     Finding::Lawful
 }

@@ -1,4 +1,5 @@
--- The pairs that document 01 marks P ('Pairs at each edge'): one table, under one statement that is computed.
+-- The pairs that document 01 marks P ('Pairs at each edge'), with the places of document 02, A12: one table, under one statement that is
+-- computed.
 use Prim.Native.Nat.{ℕ}
 use mathlib.Core.List.{List, [], _∷_, _++_, map}
 use mathlib.Core.Bool.{Bool, true, false, _&&_}
@@ -51,11 +52,11 @@ unfoldable pub pairs : List Pair
 pairs =
     -- empty stream; three bytes
     stream [] (accepted 0) []
-    ∷ stream (66 ∷ 0 ∷ 0 ∷ []) (refused 2 0) []
+    ∷ stream (66 ∷ 0 ∷ 0 ∷ []) (refused 2 3) []
     -- body 4094 has a 4-byte header, 4095 has 8; long length 4094
     ∷ stream (short 66 0 4094 ++ replicate 4094 0) (accepted 1) (4 ∷ [])
     ∷ stream (long 66 0 4095 ++ replicate 4095 0) (accepted 1) (8 ∷ [])
-    ∷ stream (long 66 0 4094 ++ replicate 4094 0) (refused 3 0) []
+    ∷ stream (long 66 0 4094 ++ replicate 4094 0) (refused 3 4) []
     -- first level 1; levels 0, 1, 0; levels 0, 2
     ∷ stream (short 66 1 0) (refused 6 0) []
     ∷ stream (short 66 0 0 ++ (short 67 1 0 ++ short 66 0 0)) (accepted 3) (4 ∷ 8 ∷ 12 ∷ [])

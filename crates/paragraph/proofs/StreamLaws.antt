@@ -12,7 +12,7 @@ use lib.Seq.{drop-drop, drop-at}
 use Rattle.numbers.specs.Little.{Bytes}
 use Rattle.records.specs.Records.{Rec, leadOf, encodeOne, encode, size, RecordObeys, Lawful}
 use Rattle.records.specs.Reading.{Stands, whole, fault, standsAt, recordAt, aheadBy, aheadOf, readFrom, readAll}
-use Rattle.records.specs.declared.fault.Fault.{Fault}
+use Rattle.records.specs.declared.fault.Refusal.{Refusal}
 use Rattle.records.specs.declared.header.Record.{Record}
 use Rattle.records.specs.declared.header.Ahead.{Ahead}
 use Rattle.records.specs.declared.header.Ahead.the-variants as N
@@ -33,7 +33,7 @@ unfolding recordsIn within
 in-end [] e = refl
 in-end (x ∷ s) e = absurd (omega arith)
 
-pub in-stop : (s : List ℕ) (f : Fault) → standsAt 1023 s ≡ fault f → recordsIn s ≡ []
+pub in-stop : (s : List ℕ) (f : Refusal) → standsAt 1023 s ≡ fault f → recordsIn s ≡ []
 unfolding recordsIn within
 in-stop [] f e = refl
 in-stop (x ∷ s) f e = rw (e, within)

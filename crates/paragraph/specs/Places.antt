@@ -1,4 +1,4 @@
--- Where a paragraph's children stand, and the record that a fault names (document 01, the table's column 'Place').
+-- Where a paragraph's children stand, and the place of what a fault names (document 01, the table's column 'Place'; document 02, A12).
 use Prim.Native.Nat.{ℕ, zero, suc, _+_, _*_, _≤_, min}
 use mathlib.Core.Bool.{Bool, cond}
 use mathlib.Core.Option.{Option, none, some}
@@ -105,21 +105,31 @@ abbrev pub textJudged : Found → List ℕ → Judged
 textJudged (P.At p) b = judged (units b)
 textJudged P.Nothing b = judgement.Sound 0
 
--- the place of what was found, or p where nothing was
+-- the place of what was found and that of its body, or p where nothing was
 abbrev pub placeFound : ℕ → Found → ℕ
 placeFound p (P.At r) = r .at .0
 placeFound p P.Nothing = p
 
--- the place of the nth child with a tag of the paragraph whose header is the first of the records and stands at `at`
-unfoldable pub childPlace : ℕ → List Rec → ℕ → ℕ → ℕ
-childPlace at [] tag nth = at
-childPlace at (r ∷ rs) tag nth = placeFound at (foundIn (suc (r .level)) tag nth (at + size r) rs)
+abbrev pub bodyPlace : ℕ → Found → ℕ
+bodyPlace p (P.At r) = r .body .0
+bodyPlace p P.Nothing = p
 
--- the place of what a fault names in that paragraph
-abbrev pub placeOf : ℕ → List Rec → Which → ℕ
-placeOf at rs W.Header = at
-placeOf at rs (W.Child tag nth) = childPlace at rs tag nth
+-- the nth child with a tag of the paragraph whose header is the first of the records and stands at `at`
+unfoldable pub childIn : ℕ → List Rec → ℕ → ℕ → Found
+childIn at [] tag nth = P.Nothing
+childIn at (r ∷ rs) tag nth = foundIn (suc (r .level)) tag nth (at + size r) rs
 
 -- the place of a position of the text whose first byte stands at `text`: a unit is two bytes; a number has 64 bits
 abbrev pub unitPlace : Offset → Position → Offset
 unitPlace text p = offset (min 18446744073709551615 (text .0 + 2 * p .0))
+
+-- the place of the entry that begins at an offset of the body whose first byte stands at `body`
+abbrev pub entryPlace : Offset → Offset → Offset
+entryPlace body from = offset (min 18446744073709551615 (body .0 + from .0))
+
+-- the place of what a fault names in the paragraph whose header is the first of the records and stands at `at`
+abbrev pub placeOf : ℕ → List Rec → Which → ℕ
+placeOf at rs W.Header = at
+placeOf at rs (W.Child tag nth) = placeFound at (childIn at rs tag nth)
+placeOf at rs (W.Unit p) = unitPlace (offset (bodyPlace at (childIn at rs kind.text 0))) p .0
+placeOf at rs (W.Entry tag from) = entryPlace (offset (bodyPlace at (childIn at rs tag 0))) from .0

@@ -1,4 +1,5 @@
--- The rules of one paragraph over its view, in document 01's order 8, 10, 11, 12, 13, 14, 15 ('Paragraphs' and 'Order'). No places here.
+-- The rules of one paragraph over its view, in document 01's order 8, 10, 11, 12, 13, 14, 15 ('Paragraphs' and 'Order'), each fault with what it
+-- names of the paragraph (document 01, the column 'Place'; document 02, A12).
 use Prim.Native.Nat.{ℕ, _+_, _*_, _%_}
 use mathlib.Core.Bool.{Bool, true, false, _&&_, _||_, not}
 use mathlib.Core.Option.{Option, none, some}
@@ -10,7 +11,9 @@ use Rattle.records.specs.Kinds as kind
 use Rattle.records.specs.Records.{Rec}
 use Rattle.records.specs.declared.fault.Fault.{Fault}
 use Rattle.records.specs.declared.fault.Fault.the-variants as F
+use Rattle.records.specs.Reading.{offset}
 use Rattle.text.specs.Units.{units}
+use Rattle.text.specs.Answers.{position}
 use Rattle.text.specs.Walk.{Token, tokens, textFault, extendedCount}
 use Rattle.text.specs.declared.Class.the-variants.{Character, Inline, Extended}
 use Rattle.text.specs.declared.Standing.{Standing}
@@ -20,6 +23,7 @@ use Rattle.entries.specs.Entries.{shapesFault, marksFault}
 use Rattle.paragraph.specs.declared.finding.Counts.{Counts}
 use Rattle.paragraph.specs.declared.fields.Owner.{Owner}
 use Rattle.paragraph.specs.declared.fields.Owner.the-variants as O
+use Rattle.paragraph.specs.declared.finding.Which.{Which}
 use Rattle.paragraph.specs.declared.finding.Which.the-variants as W
 use Rattle.paragraph.specs.declared.finding.Finding.{Finding}
 use Rattle.paragraph.specs.declared.finding.Finding.the-variants as G
@@ -34,6 +38,11 @@ unfoldable pub guard : Bool → Finding → Finding → Finding
 guard true x rest = x
 guard false x rest = rest
 
+-- a fault where a position or an index is at fault, with what it names by that, and else what follows
+unfoldable pub guardAt : Option ℕ → Fault → (ℕ → Which) → Finding → Finding
+guardAt none f names rest = rest
+guardAt (some i) f names rest = G.Breach f (names i)
+
 -- a breach, and else what follows
 unfoldable pub orElse : Finding → Finding → Finding
 orElse G.Lawful rest = rest
@@ -45,6 +54,14 @@ ofHeader f = G.Breach f W.Header
 
 abbrev pub ofChild : ℕ → Fault → Finding
 ofChild tag f = G.Breach f (W.Child tag 0)
+
+-- the unit at a position of the text
+abbrev pub unitOf : ℕ → Which
+unitOf p = W.Unit (position p)
+
+-- the entry with an index in the child with a tag, w bytes each: its first byte
+abbrev pub entryOf : ℕ → ℕ → ℕ → Which
+entryOf tag w i = W.Entry tag (offset (w * i))
 
 -- ---- 10 and 11, by the lengths of the four records
 
@@ -97,14 +114,10 @@ lengthFault c l =
 
 -- ---- 12 and 13, by the bodies
 
-abbrev pub isSome : Option ℕ → Bool
-isSome none = false
-isSome (some n) = true
-
--- 12: a text that is present breaks a rule
-abbrev pub textBroken : Option (List ℕ) → Bool
-textBroken none = false
-textBroken (some b) = isSome (textFault (units b))
+-- the unit that breaks a rule, of a text that is present
+abbrev pub unitBroken : Option (List ℕ) → Option ℕ
+unitBroken none = none
+unitBroken (some b) = textFault (units b)
 
 -- the bytes of a body; an absent record has none: no entries, and no units that matter here, since an absent text is empty or the lone
 -- unit 13
@@ -112,11 +125,11 @@ abbrev pub bytesIn : Option (List ℕ) → List ℕ
 bytesIn none = []
 bytesIn (some b) = b
 
--- 13 of shapes, then of marks
+-- 13 at the entry of shapes, '8 bytes each', then of marks, '12 bytes each'
 unfoldable pub entryFault : ℕ → List ℕ → List ℕ → Finding
 entryFault count shapes marks =
-    guard (isSome (shapesFault count shapes)) (ofChild kind.shapes F.EntriesWrong)
-    (guard (isSome (marksFault count marks)) (ofChild kind.marks F.EntriesWrong) G.Lawful)
+    guardAt (shapesFault count shapes) F.EntriesWrong (entryOf kind.shapes 8)
+    (guardAt (marksFault count marks) F.EntriesWrong (entryOf kind.marks 12) G.Lawful)
 
 -- ---- 14 and 15
 
@@ -150,10 +163,10 @@ controlFault us bs = guard (not (eqb (extendedCount us) (length bs))) (ofHeader 
 
 -- ---- the whole
 
--- behind 10 and 11
+-- behind 10 and 11: 12 at the unit that breaks a rule, then 13 to 15
 unfoldable pub bodyFault : ℕ → Option (List ℕ) → List ℕ → List ℕ → List (List ℕ) → Finding
 bodyFault count text shapes marks bs =
-    guard (textBroken text) (ofChild kind.text F.TextRule) (orElse (entryFault count shapes marks) (controlFault (units (bytesIn text)) bs))
+    guardAt (unitBroken text) F.TextRule unitOf (orElse (entryFault count shapes marks) (controlFault (units (bytesIn text)) bs))
 
 -- behind a header of 22 bytes or more
 unfoldable pub partsFault : Counts → List Rec → Finding

@@ -1,5 +1,7 @@
-// What the rules of a paragraph find, with no look at places.
+// What the rules of a paragraph find, each fault with what it names of the paragraph; places come later.
 use records::Fault;
+use records::Offset;
+use text::Position;
 
 // The numbers in a paragraph header's body.
 pub struct Counts {
@@ -9,10 +11,13 @@ pub struct Counts {
     pub lines: u32,
 }
 
-// The record that a fault names: the paragraph header, or its nth child with a tag, the first of them 0.
+// What a fault names: the paragraph header; its nth child with a tag, the first of them 0; the unit at a position of its text; or the
+// entry that begins at an offset of the body of the child with a tag.
 pub enum Which {
     Header,
     Child { tag: u32, nth: usize },
+    Unit(Position),
+    Entry { tag: u32, from: Offset },
 }
 
 pub enum Finding {

@@ -1,5 +1,5 @@
 -- The laws of a header: its length, and each way out of the order 2, 5, 6, 2, 3, 4. Assumes nothing.
-use Prim.Native.Nat.{ℕ, _+_, _-_, _/_, _%_, _≤_, _<_}
+use Prim.Native.Nat.{ℕ, _+_, _/_, _%_, _≤_, _<_}
 use native.Mathlib.Omega.{arith}
 use native.Mathlib.Decide.{decLe}
 use native.Mathlib.Nat.{lt-of-not-le}
@@ -10,6 +10,7 @@ use lib.Seq.{length-take-le}
 use borrow.Author.Tests.{lt-ltb, le-ltb, eq-eqb, ne-eqb}
 use Rattle.numbers.specs.Little.{little}
 use Rattle.records.specs.Records.{leadOf}
+use Rattle.records.specs.Answers.{refusal}
 use Rattle.records.specs.Reading.{guard, bodyAt, longAt, wordAt, standsAt, frontOf}
 use Rattle.records.specs.declared.fault.Fault.the-variants as F
 use Rattle.records.specs.declared.header.Header.{Header}
@@ -38,7 +39,7 @@ abbrev pub header : ℕ → ℕ → ℕ → ℕ → Header
 header tag level lead n = record { tag = tag; level = level; lead = lead; len = n }
 
 module _ (tag level : ℕ) (s : List ℕ) (skip n : ℕ) where
-  pub body-past : length s < skip + n → H.Refused F.BodyPastEnd ≡ frontOf (bodyAt tag level s skip n)
+  pub body-past : length s < skip + n → H.Refused (refusal F.BodyPastEnd 0) ≡ frontOf (bodyAt tag level s skip n)
   unfolding bodyAt guard
   body-past h = simp (lt-ltb (length s) (skip + n) h)
 
@@ -49,12 +50,12 @@ module _ (tag level : ℕ) (s : List ℕ) (skip n : ℕ) where
       simp (le-ltb (length s) (skip + n) h, k) (ap (λ (m : ℕ). H.Record (header tag level m n)) e)
 
 module _ (tag level : ℕ) (s : List ℕ) where
-  pub long-cut : length s < 8 → H.Refused F.HeaderCut ≡ frontOf (longAt tag level s)
+  pub long-cut : length s < 8 → H.Refused (refusal F.HeaderCut (length s)) ≡ frontOf (longAt tag level s)
   unfolding longAt guard
   long-cut h = simp (lt-ltb (length s) 8 h)
 
   pub long-small : (n : ℕ) → 8 ≤ length s → n ≡ little 4 (drop 4 s) → n < 4095
-      → H.Refused F.LongLengthTooSmall ≡ frontOf (longAt tag level s)
+      → H.Refused (refusal F.LongLengthTooSmall 4) ≡ frontOf (longAt tag level s)
   unfolding longAt guard
   long-small n h e k = simp (le-ltb (length s) 8 h, ← e, lt-ltb n 4095 k)
 
@@ -64,16 +65,16 @@ module _ (tag level : ℕ) (s : List ℕ) where
   long-body n h e k = simp (le-ltb (length s) 8 h, ← e, le-ltb n 4095 k)
 
 module _ (cap : ℕ) (s : List ℕ) where
-  pub first-cut : length s < 4 → H.Refused F.HeaderCut ≡ frontOf (standsAt cap s)
+  pub first-cut : length s < 4 → H.Refused (refusal F.HeaderCut (length s)) ≡ frontOf (standsAt cap s)
   unfolding standsAt guard
   first-cut h = simp (lt-ltb (length s) 4 h)
 
   module _ (w : ℕ) (h : 4 ≤ length s) (e : w ≡ little 4 s) where
-    pub first-tag : w % 1024 < 16 → H.Refused F.TagOutside ≡ frontOf (standsAt cap s)
+    pub first-tag : w % 1024 < 16 → H.Refused (refusal F.TagOutside 0) ≡ frontOf (standsAt cap s)
     unfolding standsAt wordAt guard
     first-tag t = simp (le-ltb (length s) 4 h, ← e, lt-ltb (w % 1024) 16 t)
 
-    pub first-level : 16 ≤ w % 1024 → cap < w / 1024 % 1024 → H.Refused F.LevelRule ≡ frontOf (standsAt cap s)
+    pub first-level : 16 ≤ w % 1024 → cap < w / 1024 % 1024 → H.Refused (refusal F.LevelRule 0) ≡ frontOf (standsAt cap s)
     unfolding standsAt wordAt guard
     first-level t l = simp (le-ltb (length s) 4 h, ← e, le-ltb (w % 1024) 16 t, lt-ltb cap (w / 1024 % 1024) l)
 

@@ -1,16 +1,25 @@
--- The reader's statement (document 01, demand 2): read accepts a stream, given room, exactly when the stream is the encoding of a list of
--- records that obeys the tag and level rules; the table is that list. Assumes nothing.
-use Prim.Native.Nat.{ℕ, _≤_}
-use mathlib.Core.Path.{_≡_, sym, ap, _∙_, subst}
-use mathlib.Core.Option.{none}
-use mathlib.Core.List.{List}
-use lib.ListN.{length}
+-- The reader's statements (document 01, demand 2; document 02, A12): read accepts a stream, given room, exactly when the stream is the encoding
+-- of a list of records that obeys the tag and level rules, and the table is that list; where read refuses, the stream is wrong in that way
+-- and at that place. Assumes nothing.
+use Prim.Native.Nat.{ℕ, _+_, _≤_}
+use native.Mathlib.Omega.{arith}
+use mathlib.Core.Path.{_≡_, refl, sym, ap, _∙_, subst}
+use mathlib.Core.Bool.{Bool, true, false, cond}
+use mathlib.Core.Option.{Option, none, some}
+use mathlib.Core.List.{List, _++_}
+use lib.Dec.{ltb, leb}
+use lib.ListN.{length, take, length-append}
+use borrow.Author.Tests.{ltb-true, leb-false}
 use Rattle.numbers.specs.Little.{Bytes}
-use Rattle.records.specs.Records.{Rec, limit, Encodes}
+use Rattle.records.specs.Records.{Rec, limit, encode, Encodes}
+use Rattle.records.specs.Answers.{numberOf, refusal, further, refusedAt}
 use Rattle.records.specs.Reading.{Read, readFrom, readAll}
-use Rattle.records.specs.Table.{readAnswer}
+use Rattle.records.specs.Stopping.{AtFront, cut, long-cut, small, past, reserved, deep, Refuses, too-long, wrong, full}
+use Rattle.records.specs.Table.{roomFor, stopped, answerOf, readAnswer}
+use Rattle.records.specs.declared.fault.Fault.the-variants as F
+use Rattle.records.specs.declared.fault.Refusal.{Refusal}
 use Rattle.records.specs.declared.fault.Answer.the-variants as A
-use Rattle.records.proofs.ReadingLaws.{read-encode, encode-read}
+use Rattle.records.proofs.ReadingLaws.{read-encode, Left, reads, encode-read}
 use Rattle.records.proofs.ScanLaws.{accepted, accepts}
 
 -- s is a stream of the records rs, n of them, within the limit and the room
@@ -39,3 +48,48 @@ stream-accepted s room n rs k =
     let same : readAll s .recs ≡ rs = ap (λ (x : Read). x .recs) e in
     accepts s room (k .within) (ap (λ (x : Read). x .stop) e) (subst (λ (xs : List Rec). length xs ≤ room) (sym same) (k .fits))
     ∙ ap A.Accepted (ap length same ∙ sym (k .count))
+
+-- ---- what read refuses is wrong there
+
+module _ (s : List ℕ) (room : ℕ) (bs : Bytes s) where
+  refuses-room : readAll s .stop ≡ none → (b : Bool) → leb (length (readAll s .recs)) room ≡ b → (f : Refusal)
+      → cond b (A.Accepted (length (readAll s .recs))) (refusedAt F.NoRoom (length (encode (take room (readAll s .recs))))) ≡ A.Refused f → Refuses s room f
+  unfolding readAll
+  refuses-room e true q f g = absurd (let z : _≡_ {A = ℕ} 0 1 = cc in omega arith)
+  refuses-room e false q f g =
+      let same : refusal F.NoRoom (length (encode (take room (readAll s .recs)))) ≡ f = cc in
+      subst (Refuses s room) same (full (readAll s .recs) (encode-read 0 s bs e) (leb-false _ _ q))
+
+  refuses-stop : (o : Option Refusal) → readAll s .stop ≡ o → (f : Refusal)
+      → stopped o (length (encode (readAll s .recs))) (roomFor room (readAll s .recs)) ≡ A.Refused f → Refuses s room f
+  unfolding stopped roomFor readAll
+  refuses-stop none e f g = refuses-room e (leb (length (readAll s .recs)) room) refl f g
+  refuses-stop (some h) e f g =
+      let k = reads 0 s bs in
+      let same : further (length (encode (readAll s .recs))) h ≡ f = cc in
+      subst (Refuses s room) same (wrong (readAll s .recs) (k .rest) h (k .lawful) (k .stream) (subst (Left (k .rest)) e (k .left)))
+
+  refuses-limit : (b : Bool) → ltb limit (length s) ≡ b → (f : Refusal) → cond b (refusedAt F.StreamTooLong 0) (answerOf room (readAll s)) ≡ A.Refused f → Refuses s room f
+  unfolding answerOf
+  refuses-limit true q f g = let same : refusal F.StreamTooLong 0 ≡ f = cc in subst (Refuses s room) same (too-long (ltb-true _ _ q))
+  refuses-limit false q f g = refuses-stop (readAll s .stop) refl f g
+
+  pub refused-stream : (f : Refusal) → readAnswer s room ≡ A.Refused f → Refuses s room f
+  unfolding readAnswer
+  refused-stream f e = refuses-limit (ltb limit (length s)) refl f e
+
+-- 2 is at the end of the stream, whichever part of the header is cut
+module _ (s : List ℕ) (room : ℕ) where
+  cut-front : (rs : List Rec) (rest : List ℕ) (f : Refusal) → encode rs ++ rest ≡ s → AtFront rest f → numberOf (f .fault) ≡ 2
+      → length (encode rs) + f .place .0 ≡ length s
+  cut-front rs rest f e (cut h) n = sym (length-append (encode rs) rest) ∙ ap length e
+  cut-front rs rest f e (long-cut z h) n = sym (length-append (encode rs) rest) ∙ ap length e
+  cut-front rs rest f e (small k h) n = absurd (omega arith)
+  cut-front rs rest f e (past lead m h) n = absurd (omega arith)
+  cut-front rs rest f e (reserved h) n = absurd (omega arith)
+  cut-front rs rest f e (deep cap h) n = absurd (omega arith)
+
+  pub cut-at-the-end : (f : Refusal) → Refuses s room f → numberOf (f .fault) ≡ 2 → f .place .0 ≡ length s
+  cut-at-the-end f (too-long h) n = absurd (omega arith)
+  cut-at-the-end f (wrong rs rest g l e a) n = cut-front rs rest g e a n
+  cut-at-the-end f (full rs e h) n = absurd (omega arith)

@@ -6,9 +6,9 @@ use native.Mathlib.Nat.{lt-of-not-le, add-assoc}
 use mathlib.Core.Path.{_≡_, refl, sym, ap, ap₂, _∙_, subst}
 use mathlib.Core.Logic.{inl, inr}
 use mathlib.Core.Bool.{Bool, true, false, cond, not}
-use mathlib.Core.Option.{none, some}
-use mathlib.Core.List.{List, [], _∷_, _++_, append-assoc}
-use lib.Dec.{T, ltb, eqb, nltb→le, eqb→eq, T-not, eqb-refl}
+use mathlib.Core.Option.{Option, none, some}
+use mathlib.Core.List.{List, [], _∷_, _++_, append-assoc, append-nil}
+use lib.Dec.{T, ltb, eqb, ltb→lt, nltb→le, eqb→eq, T-not, eqb-refl}
 use lib.ListN.{length, take, drop, length-append, length-drop, take-append-drop}
 use lib.Seq.{take-at, drop-at, take-add, drop-drop, length-take-le}
 use borrow.Author.Tests.{ltb-true, ltb-false, lt-ltb, le-ltb, ne-eqb}
@@ -16,7 +16,10 @@ use Rattle.numbers.specs.Little.{little, bytesOf, Bytes, span}
 use Rattle.numbers.proofs.LittleLaws.{bytes-drop, little-small, length-bytesOf, little-bytesOf, bytesOf-little, part-rest}
 use Rattle.records.specs.Records.{Rec, headerWord, leadOf, headerOf, encodeOne, encode, size, RecordObeys, Lawful, Encodes}
 use Rattle.records.specs.Reading.{Stands, whole, fault, guard, bodyAt, longAt, wordAt, standsAt, frontOf, offset, recordAt, aheadBy, aheadOf, Read, onto, readFrom}
+use Rattle.records.specs.Answers.{refusal, further}
+use Rattle.records.specs.Stopping.{AtFront, cut, long-cut, small, past, reserved, deep}
 use Rattle.records.specs.declared.fault.Fault.{Fault}
+use Rattle.records.specs.declared.fault.Refusal.{Refusal}
 use Rattle.records.specs.declared.header.Header.{Header}
 use Rattle.records.specs.declared.header.Front.the-variants as H
 use Rattle.records.specs.declared.header.Record.{Record}
@@ -174,10 +177,10 @@ abbrev FoundIf : ℕ → List ℕ → Stands → Type 0
 FoundIf cap s (fault f) = Unit {0}
 FoundIf cap s (whole r) = Found cap s r
 
-by-guard : (P : Stands → Type 0) (b : Bool) (f : Fault) (x : Stands) → ((g : Fault) → P (fault g)) → (T (not b) → P x) → P (guard b f x)
+by-guard : (P : Stands → Type 0) (b : Bool) (f : Fault) (p : ℕ) (x : Stands) → (T b → P (fault (refusal f p))) → (T (not b) → P x) → P (guard b f p x)
 unfolding guard
-by-guard P true f x stopped passed = stopped f
-by-guard P false f x stopped passed = passed tt
+by-guard P true f p x stopped passed = stopped tt
+by-guard P false f p x stopped passed = passed tt
 
 by-cond : (P : Stands → Type 0) (b : Bool) (x y : Stands) → (T b → P x) → (T (not b) → P y) → P (cond b x y)
 by-cond P true x y f g = f tt
@@ -242,22 +245,22 @@ module _ (cap : ℕ) (s : List ℕ) (bs : Bytes s) where
   unfolding standsAt wordAt longAt bodyAt
   found-if =
       let P = FoundIf cap s in
-      by-guard P (ltb (length s) 4) _ _ (λ _. tt)
+      by-guard P (ltb (length s) 4) _ _ _ (λ _. tt)
       (λ _.
-      by-guard P (ltb (w % 1024) 16) _ _ (λ _. tt)
+      by-guard P (ltb (w % 1024) 16) _ _ _ (λ _. tt)
       (λ t.
-      by-guard P (ltb cap (w / 1024 % 1024)) _ _ (λ _. tt)
+      by-guard P (ltb cap (w / 1024 % 1024)) _ _ _ (λ _. tt)
       (λ l.
       by-cond P (eqb (w / 1048576) 4095) _ _
       (λ z.
-      by-guard P (ltb (length s) 8) _ _ (λ _. tt)
+      by-guard P (ltb (length s) 8) _ _ _ (λ _. tt)
       (λ _.
-      by-guard P (ltb (little 4 (drop 4 s)) 4095) _ _ (λ _. tt)
+      by-guard P (ltb (little 4 (drop 4 s)) 4095) _ _ _ (λ _. tt)
       (λ h.
-      by-guard P (ltb (length s) (8 + little 4 (drop 4 s))) _ _ (λ _. tt)
+      by-guard P (ltb (length s) (8 + little 4 (drop 4 s))) _ _ _ (λ _. tt)
       (λ k. found-long (little 4 (drop 4 s)) refl (nltb→le _ _ t) (nltb→le _ _ l) (eqb→eq _ _ z) (nltb→le _ _ h) (nltb→le _ _ k)))))
       (λ z.
-      by-guard P (ltb (length s) (4 + w / 1048576)) _ _ (λ _. tt)
+      by-guard P (ltb (length s) (4 + w / 1048576)) _ _ _ (λ _. tt)
       (λ k. found-short (nltb→le _ _ t) (nltb→le _ _ l) (λ e. T-not (eqb (w / 1048576) 4095) z (subst (λ (m : ℕ). T (eqb (w / 1048576) m)) e (eqb-refl (w / 1048576)))) (nltb→le _ _ k))))))
 
   pub found : (r : Rec) → standsAt cap s ≡ whole r → Found cap s r
@@ -276,7 +279,7 @@ unfolding readFrom
 read-end cap [] e = refl
 read-end cap (x ∷ s) e = absurd (omega arith)
 
-pub read-stop : (cap : ℕ) (s : List ℕ) (f : Fault) → 0 < length s → standsAt cap s ≡ fault f → readFrom cap 0 s ≡ record { recs = []; stop = some f }
+pub read-stop : (cap : ℕ) (s : List ℕ) (f : Refusal) → 0 < length s → standsAt cap s ≡ fault f → readFrom cap 0 s ≡ record { recs = []; stop = some f }
 unfolding readFrom
 read-stop cap [] f h e = absurd (omega arith)
 read-stop cap (x ∷ s) f h e = rw (e, readFrom)
@@ -299,83 +302,115 @@ read-encode cap (r ∷ rs) l =
     ∙ ap (λ (s : List ℕ). onto r (readFrom (r .level + 1) 0 s)) (drop-at (encodeOne r) (encode rs) (size r) (length-encodeOne r))
     ∙ ap (onto r) (read-encode (r .level + 1) rs (l .1))
 
--- ---- encoding what was read: n bounds the length
+-- ---- a fault at the front
 
-unstopped : (f : Fault) → some f ≡ none → ⊥
-unstopped f e = let z : _≡_ {A = ℕ} 0 1 = cc in omega arith
+abbrev AtFrontIf : List ℕ → Stands → Type 0
+AtFrontIf s (fault f) = AtFront s f
+AtFrontIf s (whole r) = Unit {0}
 
--- at a record, where the rest behind it does
-encodes-next : (cap : ℕ) (s : List ℕ) (r : Rec) → Bytes s → 0 < length s → standsAt cap s ≡ whole r
-    → Encodes (r .level + 1) (drop (size r) s) (readFrom (r .level + 1) 0 (drop (size r) s) .recs) → Encodes cap s (readFrom cap 0 s .recs)
-unfolding encode onto
-encodes-next cap s r bs h q rest =
-    let k = found cap s bs r q in
-    rw (read-next cap s r h q)
-    (record {
-      lawful = (k .obeys, rest .lawful);
-      stream = ap₂ (λ (a b : List ℕ). a ++ b) (k .bytes) (rest .stream) ∙ take-append-drop (size r) s;
-    })
+at-front-if : (cap : ℕ) (s : List ℕ) → AtFrontIf s (standsAt cap s)
+unfolding standsAt wordAt longAt bodyAt
+at-front-if cap s =
+    let P = AtFrontIf s in
+    by-guard P (ltb (length s) 4) _ _ _ (λ h. cut (ltb→lt _ _ h))
+    (λ _.
+    by-guard P (ltb (little 4 s % 1024) 16) _ _ _ (λ h. reserved (ltb→lt _ _ h))
+    (λ _.
+    by-guard P (ltb cap (little 4 s / 1024 % 1024)) _ _ _ (λ h. deep cap (ltb→lt _ _ h))
+    (λ _.
+    by-cond P (eqb (little 4 s / 1048576) 4095) _ _
+    (λ z.
+    by-guard P (ltb (length s) 8) _ _ _ (λ h. long-cut (eqb→eq _ _ z) (ltb→lt _ _ h))
+    (λ k.
+    by-guard P (ltb (little 4 (drop 4 s)) 4095) _ _ _ (λ h. small (nltb→le _ _ k) (ltb→lt _ _ h))
+    (λ _. by-guard P (ltb (length s) (8 + little 4 (drop 4 s))) _ _ _ (λ h. past 8 (little 4 (drop 4 s)) (ltb→lt _ _ h)) (λ _. tt))))
+    (λ _. by-guard P (ltb (length s) (4 + little 4 s / 1048576)) _ _ _ (λ h. past 4 (little 4 s / 1048576) (ltb→lt _ _ h)) (λ _. tt)))))
 
-stop-next : (cap : ℕ) (s : List ℕ) (r : Rec) → 0 < length s → standsAt cap s ≡ whole r
-    → readFrom cap 0 s .stop ≡ readFrom (r .level + 1) 0 (drop (size r) s) .stop
-unfolding onto
-stop-next cap s r h q = ap (λ (y : Read). y .stop) (read-next cap s r h q)
+pub at-front : (cap : ℕ) (s : List ℕ) (f : Refusal) → standsAt cap s ≡ fault f → AtFront s f
+at-front cap s f e = subst (AtFrontIf s) e (at-front-if cap s)
 
-encodes-end : (cap : ℕ) (s : List ℕ) → length s ≤ 0 → Encodes cap s (readFrom cap 0 s .recs)
+-- at one of its bytes, or at its end
+pub front-inside : (s : List ℕ) (f : Refusal) → AtFront s f → f .place .0 ≤ length s
+front-inside s f (cut h) = omega arith
+front-inside s f (long-cut z h) = omega arith
+front-inside s f (small k h) = omega arith
+front-inside s f (past lead n h) = omega arith
+front-inside s f (reserved h) = omega arith
+front-inside s f (deep cap h) = omega arith
+
+-- ---- what reading comes to: n bounds the length
+
+-- what is left where reading came to its end
+abbrev pub Left : List ℕ → Option Refusal → Type 0
+Left rest none = rest ≡ []
+Left rest (some f) = AtFront rest f
+
+-- what reading a stream came to, where the first level is at most cap
+pub record Reads (cap : ℕ) (s : List ℕ) (x : Read) : Type 0 where
+  pub lawful : Lawful cap (x .recs)
+  pub rest : List ℕ
+  pub stream : encode (x .recs) ++ rest ≡ s
+  pub left : Left rest (x .stop)
+
+reads-end : (cap : ℕ) (s : List ℕ) → length s ≤ 0 → Reads cap s (readFrom cap 0 s)
 unfolding encode
-encodes-end cap [] h = rw (read-end cap [] refl) (record { lawful = tt; stream = refl })
-encodes-end cap (x ∷ s) h = absurd (omega arith)
+reads-end cap [] h = rw (read-end cap [] refl) (record { lawful = tt; rest = []; stream = refl; left = refl })
+reads-end cap (x ∷ s) h = absurd (omega arith)
 
 -- at what stands at the front, where the rest behind a record does
-encodes-by : (cap : ℕ) (s : List ℕ) (a : Stands) → standsAt cap s ≡ a → Bytes s → 0 < length s → readFrom cap 0 s .stop ≡ none
-    → ((r : Rec) → standsAt cap s ≡ whole r → Encodes (r .level + 1) (drop (size r) s) (readFrom (r .level + 1) 0 (drop (size r) s) .recs))
-    → Encodes cap s (readFrom cap 0 s .recs)
-encodes-by cap s (fault f) q bs h e rest = absurd (unstopped f (sym (ap (λ (y : Read). y .stop) (read-stop cap s f h q)) ∙ e))
-encodes-by cap s (whole r) q bs h e rest = encodes-next cap s r bs h q (rest r q)
-
-encode-read-within : (n cap : ℕ) (s : List ℕ) → length s ≤ n → Bytes s → readFrom cap 0 s .stop ≡ none → Encodes cap s (readFrom cap 0 s .recs)
-encode-read-within zero cap s h bs e = encodes-end cap s h
-encode-read-within (suc n) cap s h bs e =
-    elim (decLe (length s) 0) [
-      | yes g ↦ encodes-end cap s g
-      | no g ↦
-          let m : 0 < length s = lt-of-not-le g in
-          encodes-by cap s (standsAt cap s) refl bs m e
-          (λ r q.
-          encode-read-within n (r .level + 1) (drop (size r) s) (omega (arith, length-drop (size r) s, size-least r)) (bytes-drop (size r) s bs)
-          (sym (stop-next cap s r m q) ∙ e))
-    ]
-
-pub encode-read : (cap : ℕ) (s : List ℕ) → Bytes s → readFrom cap 0 s .stop ≡ none → Encodes cap s (readFrom cap 0 s .recs)
-encode-read cap s bs e = encode-read-within (length s) cap s (omega arith) bs e
-
--- ---- the records that are read lie within the stream: n bounds its length
-
-prefix-by : (cap : ℕ) (s : List ℕ) (a : Stands) → standsAt cap s ≡ a → Bytes s → 0 < length s
-    → ((r : Rec) → standsAt cap s ≡ whole r → length (encode (readFrom (r .level + 1) 0 (drop (size r) s) .recs)) ≤ length (drop (size r) s))
-    → length (encode (readFrom cap 0 s .recs)) ≤ length s
+reads-by : (cap : ℕ) (s : List ℕ) (a : Stands) → standsAt cap s ≡ a → Bytes s → 0 < length s
+    → ((r : Rec) → standsAt cap s ≡ whole r → Reads (r .level + 1) (drop (size r) s) (readFrom (r .level + 1) 0 (drop (size r) s)))
+    → Reads cap s (readFrom cap 0 s)
 unfolding encode onto
-prefix-by cap s (fault f) q bs h rest = rw (read-stop cap s f h q) (omega arith)
-prefix-by cap s (whole r) q bs h rest =
+reads-by cap s (fault f) q bs h further = rw (read-stop cap s f h q) (record { lawful = tt; rest = s; stream = refl; left = at-front cap s f q })
+reads-by cap s (whole r) q bs h further =
     let k = found cap s bs r q in
-    let ih = rest r q in
+    let ih = further r q in
     rw (read-next cap s r h q)
-    (omega (arith, k .inside, length-drop (size r) s, encode-length r (encode (readFrom (r .level + 1) 0 (drop (size r) s) .recs))))
+    (record {
+      lawful = (k .obeys, ih .lawful);
+      rest = ih .rest;
+      stream =
+          append-assoc (encodeOne r) (encode (readFrom (r .level + 1) 0 (drop (size r) s) .recs)) (ih .rest)
+          ∙ ap₂ (λ (a b : List ℕ). a ++ b) (k .bytes) (ih .stream) ∙ take-append-drop (size r) s;
+      left = ih .left;
+    })
 
-prefix-within : (n cap : ℕ) (s : List ℕ) → length s ≤ n → Bytes s → length (encode (readFrom cap 0 s .recs)) ≤ length s
-unfolding encode
-prefix-within zero cap s h bs = rw (read-end cap s (omega arith)) (omega arith)
-prefix-within (suc n) cap s h bs =
+reads-within : (n cap : ℕ) (s : List ℕ) → length s ≤ n → Bytes s → Reads cap s (readFrom cap 0 s)
+reads-within zero cap s h bs = reads-end cap s h
+reads-within (suc n) cap s h bs =
     elim (decLe (length s) 0) [
-      | yes g ↦ rw (read-end cap s (omega arith)) (omega arith)
+      | yes g ↦ reads-end cap s g
       | no g ↦
-          let m : 0 < length s = lt-of-not-le g in
-          prefix-by cap s (standsAt cap s) refl bs m
-          (λ r q. prefix-within n (r .level + 1) (drop (size r) s) (omega (arith, length-drop (size r) s, size-least r)) (bytes-drop (size r) s bs))
+          reads-by cap s (standsAt cap s) refl bs (lt-of-not-le g)
+          (λ r q. reads-within n (r .level + 1) (drop (size r) s) (omega (arith, length-drop (size r) s, size-least r)) (bytes-drop (size r) s bs))
     ]
 
-pub read-prefix : (cap : ℕ) (s : List ℕ) → Bytes s → length (encode (readFrom cap 0 s .recs)) ≤ length s
-read-prefix cap s bs = prefix-within (length s) cap s (omega arith) bs
+pub reads : (cap : ℕ) (s : List ℕ) → Bytes s → Reads cap s (readFrom cap 0 s)
+reads cap s bs = reads-within (length s) cap s (omega arith) bs
+
+-- without a fault the stream is the encoding of the records
+pub encode-read : (cap : ℕ) (s : List ℕ) → Bytes s → readFrom cap 0 s .stop ≡ none → Encodes cap s (readFrom cap 0 s .recs)
+encode-read cap s bs e =
+    let k = reads cap s bs in
+    let none-left : k .rest ≡ [] = subst (Left (k .rest)) e (k .left) in
+    record { lawful = k .lawful; stream = sym (append-nil (encode (readFrom cap 0 s .recs))) ∙ ap (λ (l : List ℕ). encode (readFrom cap 0 s .recs) ++ l) (sym none-left) ∙ k .stream }
+
+-- how far behind the records a fault is
+abbrev pub beyond : Option Refusal → ℕ
+beyond none = 0
+beyond (some f) = f .place .0
+
+-- the records and the fault behind them lie within the stream
+pub read-prefix : (cap : ℕ) (s : List ℕ) → Bytes s → length (encode (readFrom cap 0 s .recs)) + beyond (readFrom cap 0 s .stop) ≤ length s
+read-prefix cap s bs =
+    let k = reads cap s bs in
+    let l : length (encode (readFrom cap 0 s .recs)) + length (k .rest) ≡ length s = sym (length-append (encode (readFrom cap 0 s .recs)) (k .rest)) ∙ ap length (k .stream) in
+    omega (arith, l, by (readFrom cap 0 s .stop) (k .rest) (k .left))
+  where
+    by : (o : Option Refusal) (rest : List ℕ) → Left rest o → beyond o ≤ length rest
+    by none rest h = omega arith
+    by (some f) rest h = front-inside rest f h
 
 -- ---- a header that was read from the part behind `at`
 
@@ -398,15 +433,21 @@ module _ (s : List ℕ) (at cap : ℕ) (h : at < length s) where
       rw (lt-ltb at (length s) h)
       (front-by (standsAt cap (drop at s)) k refl (ap (λ (l : List ℕ). frontOf (standsAt cap l)) (sym (part-rest s at)) ∙ e))
 
-  refused-by : (a : Stands) (f : Fault) → frontOf a ≡ H.Refused f → N.Refused f ≡ aheadBy at a
-  refused-by (fault g) f e = cc
-  refused-by (whole r) f e = absurd (let z : _≡_ {A = ℕ} 0 1 = cc in omega arith)
+  -- the fault that it is
+  stands-refused : (a : Stands) (f : Refusal) → frontOf a ≡ H.Refused f → a ≡ fault f
+  stands-refused (fault g) f e = ap fault cc
+  stands-refused (whole r) f e = absurd (let z : _≡_ {A = ℕ} 0 1 = cc in omega arith)
 
-  pub ahead-refused : (f : Fault) → frontOf (standsAt cap (take (length s - at) (drop at s))) ≡ H.Refused f → N.Refused f ≡ aheadOf cap s at
-  unfolding aheadOf
-  ahead-refused f e =
-      rw (lt-ltb at (length s) h)
-      (refused-by (standsAt cap (drop at s)) f (ap (λ (l : List ℕ). frontOf (standsAt cap l)) (sym (part-rest s at)) ∙ e))
+  module _ (f : Refusal) (e : frontOf (standsAt cap (take (length s - at) (drop at s))) ≡ H.Refused f) where
+    refused : standsAt cap (drop at s) ≡ fault f
+    refused = stands-refused (standsAt cap (drop at s)) f (ap (λ (l : List ℕ). frontOf (standsAt cap l)) (sym (part-rest s at)) ∙ e)
+
+    pub ahead-refused : N.Refused (further at f) ≡ aheadOf cap s at
+    unfolding aheadOf
+    ahead-refused = rw (lt-ltb at (length s) h, refused)
+
+    pub ahead-inside : at + f .place .0 ≤ length s
+    ahead-inside = omega (arith, h, length-drop at s, front-inside (drop at s) f (at-front cap (drop at s) f refused))
 
 pub ahead-end : (s : List ℕ) (at cap : ℕ) → length s ≤ at → N.End ≡ aheadOf cap s at
 unfolding aheadOf
@@ -442,6 +483,12 @@ pub record Here (s : List ℕ) (at cap : ℕ) (r : Record) : Type 0 where
   pub bytes : encodeOne rec ≡ take (size rec) (drop at s)
   pub body-there : take (r .len) (drop (r .body .0) s) ≡ rec .body
   pub next : readFrom cap 0 (drop at s) ≡ onto rec (readFrom (rec .level + 1) 0 (drop (at + size rec) s))
+
+-- a reading from `at` on that stops at once, with the fault f of the stream
+pub record Stops (x : Read) (at : ℕ) (f : Refusal) : Type 0 where
+  pub found : Refusal
+  pub is : further at found ≡ f
+  pub reads : x ≡ record { recs = []; stop = some found }
 
 module _ (s : List ℕ) (at cap : ℕ) where
   some-left : at < length s → 0 < length (drop at s)
@@ -480,14 +527,14 @@ module _ (s : List ℕ) (at cap : ℕ) where
     unfolding aheadOf
     here r e = here-by (ltb at (length s)) (standsAt cap (drop at s)) r refl refl e
 
-  -- and where it found none
-  stops-by : (b : Bool) (a : Stands) (f : Fault) → ltb at (length s) ≡ b → standsAt cap (drop at s) ≡ a → cond b (aheadBy at a) N.End ≡ N.Refused f
-      → readFrom cap 0 (drop at s) ≡ record { recs = []; stop = some f }
+  -- and where it found none: a fault, with its place in the stream
+  stops-by : (b : Bool) (a : Stands) (f : Refusal) → ltb at (length s) ≡ b → standsAt cap (drop at s) ≡ a → cond b (aheadBy at a) N.End ≡ N.Refused f
+      → Stops (readFrom cap 0 (drop at s)) at f
   stops-by false a f t q e = absurd (let z : _≡_ {A = ℕ} 0 1 = cc in omega arith)
   stops-by true (whole k) f t q e = absurd (let z : _≡_ {A = ℕ} 0 1 = cc in omega arith)
-  stops-by true (fault g) f t q e = let same : g ≡ f = cc in read-stop cap (drop at s) g (some-left (ltb-true at (length s) t)) q ∙ rw same
+  stops-by true (fault g) f t q e = record { found = g; is = cc; reads = read-stop cap (drop at s) g (some-left (ltb-true at (length s) t)) q }
 
-  pub stops-here : (f : Fault) → aheadOf cap s at ≡ N.Refused f → readFrom cap 0 (drop at s) ≡ record { recs = []; stop = some f }
+  pub stops-here : (f : Refusal) → aheadOf cap s at ≡ N.Refused f → Stops (readFrom cap 0 (drop at s)) at f
   unfolding aheadOf
   stops-here f e = stops-by (ltb at (length s)) (standsAt cap (drop at s)) f refl refl e
 
@@ -514,5 +561,5 @@ no-record at r (inr z) = let y : _≡_ {A = ℕ} 0 2 = z in omega arith
 pub none-here : (s : List ℕ) (at cap : ℕ) (x : Ahead) → x ≡ aheadOf cap s at → NoRecord x → readFrom cap 0 (drop at s) .recs ≡ []
 none-here s at cap (N.Record r) e (inl z) = absurd (let y : _≡_ {A = ℕ} 0 1 = z in omega arith)
 none-here s at cap (N.Record r) e (inr z) = absurd (let y : _≡_ {A = ℕ} 0 2 = z in omega arith)
-none-here s at cap (N.Refused f) e n = ap (λ (y : Read). y .recs) (stops-here s at cap f (sym e))
+none-here s at cap (N.Refused f) e n = ap (λ (y : Read). y .recs) (stops-here s at cap f (sym e) .reads)
 none-here s at cap N.End e n = ap (λ (y : Read). y .recs) (ends-here s at cap (sym e))

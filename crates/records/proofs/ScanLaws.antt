@@ -3,7 +3,7 @@ use Prim.Native.Nat.{ℕ, zero, suc, _+_, _-_, _*_, _≤_, _<_}
 use native.Mathlib.Omega.{arith}
 use native.Mathlib.Decide.{decLe}
 use native.Mathlib.Nat.{lt-of-not-le, zero-add, add-zero, sub-zero}
-use mathlib.Core.Path.{_≡_, refl, ap, _∙_, subst}
+use mathlib.Core.Path.{_≡_, refl, sym, ap, _∙_, subst}
 use mathlib.Core.Bool.{Bool, true, false, cond}
 use mathlib.Core.Option.{Option, none, some}
 use mathlib.Core.List.{List, [], _∷_}
@@ -15,13 +15,12 @@ use Rattle.records.specs.Records.{Rec, limit, encode, size}
 use Rattle.records.specs.Answers.{refusedAt, place}
 use Rattle.records.specs.Reading.{Read, onto, readFrom, readAll}
 use Rattle.records.specs.Table.{roomFor, stopped, answerOf, readAnswer, afterRead}
-use Rattle.records.specs.declared.fault.Fault.{Fault}
 use Rattle.records.specs.declared.fault.Fault.the-variants as F
 use Rattle.records.specs.declared.fault.Refusal.{Refusal}
 use Rattle.records.specs.declared.fault.Answer.{Answer}
 use Rattle.records.specs.declared.header.Record.{Record}
 use Rattle.records.specs.declared.fault.Answer.the-variants as A
-use Rattle.records.proofs.ReadingLaws.{length-encodeOne, size-least, read-prefix, Here}
+use Rattle.records.proofs.ReadingLaws.{length-encodeOne, size-least, beyond, read-prefix, Here, Stops}
 
 pub length-encode : (r : Rec) (rs : List Rec) → length (encode (r ∷ rs)) ≡ size r + length (encode rs)
 unfolding encode
@@ -86,9 +85,11 @@ answer-next room n over at r x =
     let e : at + (size r + length (encode (x .recs))) ≡ at + size r + length (encode (x .recs)) = omega arith in
     simp (length-encode r (x .recs), e, room-next room n over at r (x .recs))
 
-pub answer-stop : (room n over at : ℕ) (f : Fault) → answerFrom room n over at (record { recs = []; stop = some f }) ≡ refusedAt f at
+pub answer-stop : (room n over at : ℕ) (x : Read) (f : Refusal) → Stops x at f → A.Refused f ≡ answerFrom room n over at x
 unfolding answerFrom stopped encode
-answer-stop room n over at f = ap (refusedAt f) (add-zero at)
+answer-stop room n over at x f k =
+    let z : at + 0 ≡ at = add-zero at in
+    sym (rw (k .reads, z) (ap A.Refused (k .is)))
 
 pub answer-fits : (room n over at : ℕ) → n ≤ room → answerFrom room n over at (record { recs = []; stop = none }) ≡ A.Accepted n
 unfolding answerFrom stopped roomFrom
@@ -138,7 +139,7 @@ module _ (s : List ℕ) (room : ℕ) where
   accepted-room h e true q = record { small = h; whole = e; fits = leb-true _ _ q; count = refl }
   accepted-room h e false q = tt
 
-  accepted-stop : length s ≤ limit → (o : Option Fault) → readAll s .stop ≡ o
+  accepted-stop : length s ≤ limit → (o : Option Refusal) → readAll s .stop ≡ o
       → AcceptedIf s room (stopped o (length (encode (readAll s .recs))) (roomFor room (readAll s .recs)))
   unfolding stopped roomFor
   accepted-stop h none e = accepted-room h e _ refl
@@ -181,15 +182,16 @@ module _ (s : List ℕ) (room : ℕ) (bs : Bytes s) where
   near-room h true = omega (arith, records-bytes (readFrom 0 0 s .recs), read-prefix 0 s bs)
   near-room h false = omega (arith, take-bytes room (readFrom 0 0 s .recs), read-prefix 0 s bs)
 
-  near-stop : length s ≤ limit → (o : Option Fault) → Small (stopped o (length (encode (readAll s .recs))) (roomFor room (readAll s .recs)))
-  unfolding stopped roomFor readAll
-  near-stop h none = near-room h (leb (length (readAll s .recs)) room)
-  near-stop h (some f) = omega (arith, read-prefix 0 s bs)
+  near-stop : length s ≤ limit → (o : Option Refusal) → length (encode (readAll s .recs)) + beyond o ≤ length s
+      → Small (stopped o (length (encode (readAll s .recs))) (roomFor room (readAll s .recs)))
+  unfolding stopped roomFor
+  near-stop h none k = near-room h (leb (length (readAll s .recs)) room)
+  near-stop h (some f) k = omega arith
 
   near-limit : (b : Bool) → ltb limit (length s) ≡ b → Small (cond b (refusedAt F.StreamTooLong 0) (answerOf room (readAll s)))
-  unfolding answerOf
+  unfolding answerOf readAll
   near-limit true q = omega arith
-  near-limit false q = near-stop (ltb-false _ _ q) (readAll s .stop)
+  near-limit false q = near-stop (ltb-false _ _ q) (readAll s .stop) (read-prefix 0 s bs)
 
   pub answer-near : place (readAnswer s room) ≤ limit
   unfolding readAnswer

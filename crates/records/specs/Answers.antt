@@ -2,6 +2,7 @@
 use Prim.Native.Nat.{ℕ, _+_, _*_, min}
 use Rattle.records.specs.declared.fault.Fault.{Fault}
 use Rattle.records.specs.declared.fault.Fault.the-variants as F
+use Rattle.records.specs.declared.fault.Refusal.{Refusal}
 use Rattle.records.specs.declared.fault.Answer.{Answer}
 use Rattle.records.specs.declared.fault.Answer.the-variants as A
 
@@ -34,9 +35,17 @@ numberOf F.SheetTooLong = 25
 numberOf F.BufferTooShort = 26
 numberOf F.ListTooShort = 27
 
+-- a fault and where: at a byte place
+abbrev pub refusal : Fault → ℕ → Refusal
+refusal f p = record { fault = f; place = record { 0 = p } }
+
+-- the same fault where what it was found in begins at a place
+abbrev pub further : ℕ → Refusal → Refusal
+further at r = refusal (r .fault) (at + r .place .0)
+
 -- the refusal of a fault at a byte place
 abbrev pub refusedAt : Fault → ℕ → Answer
-refusedAt f p = A.Refused (record { fault = f; place = record { 0 = p } })
+refusedAt f p = A.Refused (refusal f p)
 
 -- document 01's number of an answer, 0 where it is accepted
 abbrev pub number : Answer → ℕ

@@ -7,9 +7,8 @@ use mathlib.Core.List.{List, [], _∷_, _++_, map}
 use lib.Dec.{ltb, leb}
 use lib.ListN.{length, take, drop}
 use Rattle.records.specs.Records.{Rec, limit, encode, leadOf, size}
-use Rattle.records.specs.Answers.{refusedAt}
+use Rattle.records.specs.Answers.{further, refusedAt}
 use Rattle.records.specs.Reading.{Read, readAll}
-use Rattle.records.specs.declared.fault.Fault.{Fault}
 use Rattle.records.specs.declared.fault.Fault.the-variants as F
 use Rattle.records.specs.declared.fault.Refusal.{Refusal}
 use Rattle.records.specs.declared.fault.Answer.{Answer}
@@ -19,12 +18,12 @@ use Rattle.records.specs.declared.fault.Answer.the-variants as A
 unfoldable pub roomFor : ℕ → List Rec → Answer
 roomFor room rs = cond (leb (length rs) room) (A.Accepted (length rs)) (refusedAt F.NoRoom (length (encode (take room rs))))
 
--- the fault that stopped the reading, at its place p, and else the answer a
-unfoldable pub stopped : Option Fault → ℕ → Answer → Answer
+-- the fault that stopped the reading behind p bytes, and else the answer a
+unfoldable pub stopped : Option Refusal → ℕ → Answer → Answer
 stopped none p a = a
-stopped (some f) p a = refusedAt f p
+stopped (some f) p a = A.Refused (further p f)
 
--- the fault that stopped the reading, at its header, and else the answer of the room
+-- the fault that stopped the reading, behind the records, and else the answer of the room
 unfoldable pub answerOf : ℕ → Read → Answer
 answerOf room x = stopped (x .stop) (length (encode (x .recs))) (roomFor room (x .recs))
 

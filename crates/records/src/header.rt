@@ -1,10 +1,13 @@
 // The record at a place of a stream: the one step over the records.
 use crate::fault::Fault;
 use crate::fault::Offset;
+use crate::fault::Refusal;
 use numbers::number32;
 ghost use mathlib.Core.Path.{_≡_};
 ghost use Rattle.records.specs.Records.{leadOf};
+ghost use Rattle.records.specs.Answers.{refusal};
 ghost use Rattle.records.specs.Reading.{frontOf, standsAt, longAt, bodyAt, aheadOf};
+ghost use Rattle.records.specs.declared.header.Front.the-variants as front;
 
 // What a header says: where its body begins behind it, and how long that is.
 pub struct Header {
@@ -14,9 +17,20 @@ pub struct Header {
     pub len: usize,
 }
 
+// What stands at the front of a slice; a refusal's place is counted from there.
 pub enum Front {
     Record(Header),
-    Refused(Fault),
+    Refused(Refusal),
+}
+
+// A fault at a byte of what was given.
+fn wrong(fault: Fault, at: usize) -> Front
+    ensures { λ r. ⌜ r ≡ front.Refused (refusal fault at) ⌝ }
+{
+    Front::Refused(Refusal {
+        fault,
+        place: Offset(at),
+    })
 }
 
 // The record at the front of s, whose level may be at most cap: 2, 5, 6, 2, 3, 4.
@@ -24,16 +38,16 @@ pub fn first(s: &[u8], cap: u32) -> Front
     ensures { λ r. ⌜ r ≡ frontOf (standsAt cap (now (s .entry))) ⌝ }
 {
     if s.len() < 4 {
-        return Front::Refused(Fault::HeaderCut);
+        return wrong(Fault::HeaderCut, s.len());
     }
     let word = number32(s);
     let tag = word % 1024;
     let level = word / 1024 % 1024;
     if tag < 16 {
-        return Front::Refused(Fault::TagOutside);
+        return wrong(Fault::TagOutside, 0);
     }
     if cap < level {
-        return Front::Refused(Fault::LevelRule);
+        return wrong(Fault::LevelRule, 0);
     }
     let size = word / 1048576;
     if size == 4095 {
@@ -47,11 +61,11 @@ fn long(s: &[u8], tag: u32, level: u32) -> Front
     ensures { λ r. ⌜ r ≡ frontOf (longAt tag level (now (s .entry))) ⌝ }
 {
     if s.len() < 8 {
-        return Front::Refused(Fault::HeaderCut);
+        return wrong(Fault::HeaderCut, s.len());
     }
     let len = number32(&s[4..]);
     if len < 4095 {
-        return Front::Refused(Fault::LongLengthTooSmall);
+        return wrong(Fault::LongLengthTooSmall, 4);
     }
     body(s, tag, level, 8, len)
 }
@@ -63,7 +77,7 @@ fn body(s: &[u8], tag: u32, level: u32, lead: usize, len: u32) -> Front
 {
     let n = len as usize;
     if s.len() < lead + n {
-        return Front::Refused(Fault::BodyPastEnd);
+        return wrong(Fault::BodyPastEnd, 0);
     }
     Front::Record(Header {
         tag,
@@ -86,7 +100,7 @@ pub struct Record {
 // What a step over the records finds.
 pub enum Ahead {
     Record(Record),
-    Refused(Fault),
+    Refused(Refusal),
     End,
 }
 
@@ -111,6 +125,14 @@ pub fn record_at(s: &[u8], at: Offset, cap: u32) -> Ahead
                 next: Offset(next),
             })
         }
-        Front::Refused(f) => Ahead::Refused(f),
+        Front::Refused(f) => {
+            let fault = f.fault;
+            let within = f.place;
+            let wrong = place + within.0;
+            Ahead::Refused(Refusal {
+                fault,
+                place: Offset(wrong),
+            })
+        }
     }
 }

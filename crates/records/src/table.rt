@@ -37,7 +37,7 @@ pub fn scan(s: &[u8], room: usize) -> Answer
                 n = n + 1;
             }
             Ahead::Refused(f) => {
-                return refused(f, at);
+                return Answer::Refused(f);
             }
             Ahead::End => {
                 break;

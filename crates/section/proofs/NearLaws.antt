@@ -13,18 +13,28 @@ use Rattle.records.specs.declared.fault.Refusal.{Refusal}
 use Rattle.records.proofs.ScanLaws.{length-encode, Near, judged-near}
 use Rattle.paragraph.specs.declared.finding.Finding.{Finding}
 use Rattle.paragraph.specs.declared.finding.Finding.the-variants as G
-use Rattle.paragraph.proofs.NearLaws.{place-near}
-use Rattle.section.specs.Parents.{misplaced, strayFrom}
+use Rattle.paragraph.specs.View.{view}
+use Rattle.paragraph.specs.Rules.{firstFault}
+use Rattle.paragraph.proofs.NearLaws.{NamesIf, names, place-near}
+use Rattle.section.specs.Parents.{header, misplaced, strayFrom}
 use Rattle.section.specs.Section.{refusalOr, findingOf, paragraphsFault, strayOr, sectionFault, sectionAnswer, checkAnswer}
+
+-- what the finding of a record names, where it is a paragraph header and where not
+pub finding-names : (r : Rec) (rs : List Rec) (b : Bool) → NamesIf (view r rs .own) (cond b (firstFault (r ∷ rs)) G.Lawful)
+unfolding firstFault
+finding-names r rs true = names (view r rs)
+finding-names r rs false = tt
 
 paragraphs-near : (at end : ℕ) (rs : List Rec) → at + length (encode rs) ≤ end → Near end (paragraphsFault at rs)
 unfolding paragraphsFault
 paragraphs-near at end [] h = tt
-paragraphs-near at end (r ∷ rs) h = by (findingOf (r .tag) (r ∷ rs)) (paragraphs-near (at + size r) end rs (omega (arith, length-encode r rs, h)))
+paragraphs-near at end (r ∷ rs) h =
+    by (findingOf (r .tag) (r ∷ rs)) (finding-names r rs (header (r .tag))) (paragraphs-near (at + size r) end rs (omega (arith, length-encode r rs, h)))
   where
-    by : (x : Finding) → Near end (paragraphsFault (at + size r) rs) → Near end (refusalOr at (r ∷ rs) x (paragraphsFault (at + size r) rs))
-    by G.Lawful rest = rest
-    by (G.Breach f w) rest = omega (arith, place-near at (r ∷ rs) w, h)
+    by : (x : Finding) → NamesIf (view r rs .own) x → Near end (paragraphsFault (at + size r) rs)
+        → Near end (refusalOr at (r ∷ rs) x (paragraphsFault (at + size r) rs))
+    by G.Lawful n rest = rest
+    by (G.Breach f w) n rest = omega (arith, place-near at r rs f w n, h)
 
 stray-near : (at end : ℕ) (earlier rs : List Rec) (rest : Option Refusal) → at + length (encode rs) ≤ end → Near end rest
     → Near end (strayOr (strayFrom at earlier rs) rest)

@@ -5,9 +5,9 @@ use mathlib.Core.Option.{Option, none, some}
 use mathlib.Core.List.{List, [], _∷_}
 use lib.ListN.{length}
 use Rattle.records.specs.Records.{Rec, size}
+use Rattle.records.specs.Answers.{refusal}
 use Rattle.records.specs.Reading.{readAll}
 use Rattle.records.specs.Table.{readAnswer, afterRead}
-use Rattle.records.specs.declared.fault.Fault.{Fault}
 use Rattle.records.specs.declared.fault.Fault.the-variants as F
 use Rattle.records.specs.declared.fault.Refusal.{Refusal}
 use Rattle.records.specs.declared.fault.Answer.{Answer}
@@ -16,9 +16,6 @@ use Rattle.paragraph.specs.Places.{placeOf}
 use Rattle.paragraph.specs.declared.finding.Finding.{Finding}
 use Rattle.paragraph.specs.declared.finding.Finding.the-variants as G
 use Rattle.section.specs.Parents.{header, strayFrom}
-
-abbrev pub refusal : Fault → ℕ → Refusal
-refusal f p = record { fault = f; place = record { 0 = p } }
 
 -- the refusal that a finding makes of the paragraph at `at`, and else what follows
 abbrev pub refusalOr : ℕ → List Rec → Finding → Option Refusal → Option Refusal

@@ -4,14 +4,14 @@ use native.Mathlib.Omega.{arith}
 use mathlib.Core.Path.{_≡_, refl, sym, ap, _∙_}
 use mathlib.Core.Logic.{_⊎_, inl, inr}
 use mathlib.Core.Bool.{Bool, true, false, cond, _&&_, not}
-use mathlib.Core.Option.{none, some}
+use mathlib.Core.Option.{Option, none, some}
 use mathlib.Core.List.{List, [], _∷_}
 use lib.Dec.{ltb, eqb}
 use lib.ListN.{length, getD, drop, length-drop, drop-of-length-le}
 use lib.Seq.{drop-cons, drop-drop, drop-nil, getD-drop}
 use borrow.Author.Tests.{le-ltb, eq-eqb, ne-eqb, ltb-false, eqb-true, eqb-false, not-false}
 use Rattle.text.specs.Asked.{what, width}
-use Rattle.text.specs.Walk.{Front, stands, broken, over, Sight, takes, frontOf, sight, front, Token, walk, tokensAt, fault, faultAt}
+use Rattle.text.specs.Walk.{Front, stands, broken, over, Sight, takes, frontOf, sight, front, Token, walk, tokensAt, faultOr, fault, faultAt, textFault}
 use Rattle.text.specs.Answers.{position, stepOf, stepAt}
 use Rattle.text.specs.declared.Standing.{Standing}
 use Rattle.text.specs.declared.Position.{Position}
@@ -238,6 +238,53 @@ step-broken us p q e = go (front (drop p us)) refl e
     go (stands t) h r = absurd (let z : _≡_ {A = ℕ} 0 1 = cc in omega arith)
     go (broken d) h r = let x : q ≡ position (p + d) = cc in rw x (fault-front p d (drop p us) h)
     go over h r = absurd (let z : _≡_ {A = ℕ} 0 1 = cc in omega arith)
+
+-- ---- a fault is at a unit of the text, or at its end
+
+-- a position, if there is one, at n or before it
+abbrev pub Upto : ℕ → Option ℕ → Type 0
+Upto n none = Unit {0}
+Upto n (some p) = p ≤ n
+
+abbrev Within : ℕ → Front → Type 0
+Within n (stands s) = Unit {0}
+Within n (broken d) = d ≤ n
+Within n over = Unit {0}
+
+front-within : (k : Sight) → Within (k .left) (frontOf k)
+unfolding frontOf
+front-within k =
+    either (Within (k .left)) (eqb (k .unit) 0) (omega arith)
+    (by (ltb (k .left) (takes k)) refl)
+  where
+    by : (b : Bool) → ltb (k .left) (takes k) ≡ b → Within (k .left) (cond b (broken 0) (cond (not (eqb (k .last) (k .unit))) (broken (takes k - 1)) (endOf k)))
+    by true e = omega arith
+    by false e =
+        let h : takes k ≤ k .left = ltb-false (k .left) (takes k) e in
+        either (Within (k .left)) (not (eqb (k .last) (k .unit))) (omega arith)
+        (either (Within (k .left)) (eqb (k .left) (takes k) && not (eqb (k .unit) 13)) (omega arith)
+        (either (Within (k .left)) (eqb (k .unit) 13 && not (eqb (k .left) (takes k))) (omega arith) tt))
+
+fault-within : (p k : ℕ) (us : List ℕ) → Upto (p + length us) (fault p k us)
+unfolding fault front
+fault-within p k [] = tt
+fault-within p zero (u ∷ us) = go (front (u ∷ us)) (front-within (sight u us)) (fault (p + 1) (width (what u) - 1) us) (fault-within (p + 1) (width (what u) - 1) us)
+  where
+    go : (f : Front) → Within (suc (length us)) f → (o : Option ℕ) → Upto (p + 1 + length us) o → Upto (p + suc (length us)) (faultOr p f o)
+    go (stands s) w none h = tt
+    go (stands s) w (some q) h = omega arith
+    go (broken d) w o h = omega arith
+    go over w o h = tt
+fault-within p (suc k) (u ∷ us) = on (fault (p + 1) k us) (fault-within (p + 1) k us)
+  where
+    on : (o : Option ℕ) → Upto (p + 1 + length us) o → Upto (p + suc (length us)) o
+    on none h = tt
+    on (some q) h = omega arith
+
+pub text-within : (us : List ℕ) → Upto (length us) (textFault us)
+unfolding textFault
+text-within [] = omega arith
+text-within (u ∷ us) = let e : 0 + suc (length us) ≡ suc (length us) = omega arith in rw e at (fault-within 0 0 (u ∷ us))
 
 over-of : (p : ℕ) (f : Front) → stepOf p f ≡ step.End → f ≡ over
 over-of p (stands s) e = absurd (let z : _≡_ {A = ℕ} 0 1 = cc in omega arith)

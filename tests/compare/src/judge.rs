@@ -4,7 +4,8 @@ use crate::lend::{Lent, Pattern};
 use crate::subject::{answer_of_rows, rows_of, write_rows, Kind, Subject};
 use oracle::answer::{answer_of, answer_of_part};
 use oracle::lister::{judged, listing};
-use oracle::{check, field_text, fill, pack};
+use oracle::records::tile;
+use oracle::{check, field_text, fill, pack, Row};
 
 /// One fill: id and value, two bytes for each unit.
 #[derive(Clone, Debug)]
@@ -51,12 +52,39 @@ pub enum Case {
     },
 }
 
-/// What a case showed: the oracle's number, the tag at its place where that is a record, and all differences.
+impl Case {
+    /// The stream that the case is about; none of pack and of two fills, which make one.
+    pub fn stream(&self) -> Option<&[u8]> {
+        match self {
+            Case::Read { stream, .. } => Some(stream),
+            Case::Check { section }
+            | Case::FieldText { section, .. }
+            | Case::Fill { section, .. } => Some(section),
+            Case::List { input, .. } => Some(input),
+            Case::Pack { .. } | Case::TwoFills { .. } => None,
+        }
+    }
+}
+
+/// What a case showed: the oracle's number and place, the tag of the record with the place where several tags have the
+/// number, and all differences.
 #[derive(Debug, Default)]
 pub struct Outcome {
     pub number: u8,
+    pub place: usize,
     pub tag: Option<u32>,
     pub differences: Vec<String>,
+}
+
+impl Outcome {
+    pub fn of(stream: &[u8], asked: u64, differences: Vec<String>) -> Outcome {
+        Outcome {
+            number: number_of(asked),
+            place: place_of(asked),
+            tag: tag_at(stream, asked),
+            differences,
+        }
+    }
 }
 
 pub fn number_of(answer: u64) -> u8 {
@@ -85,14 +113,17 @@ fn same<T: Pattern>(name: &str, found: &Lent<T>, asked: &Lent<T>, differences: &
     }
 }
 
-/// The tag of the header at the place of a refusal, for numbers that name records of several tags.
+/// The tag of the record with the place of a refusal, for numbers that name records of several tags.
 fn tag_at(stream: &[u8], answer: u64) -> Option<u32> {
-    let place = place_of(answer);
-    let header = stream.get(place..place + 4)?;
-    let absent = number_of(answer) == 16 && place == 0;
-    let several = matches!(number_of(answer), 9 | 11 | 13 | 16 | 17);
-    let tag = (u32::from(header[0]) | u32::from(header[1]) << 8) & 1023;
-    (several && !absent).then_some(tag)
+    let (number, place) = (number_of(answer), place_of(answer));
+    let absent = number == 16 && place == 0;
+    let several = matches!(number, 9 | 11 | 13 | 16 | 17);
+    if absent || !several {
+        return None;
+    }
+    let rows = tile(stream).ok()?;
+    let holds = |row: &&Row| row.header() <= place && place < row.end();
+    rows.iter().find(holds).map(|row| row.tag)
 }
 
 const LIST_NAMES: [&str; 4] = ["tags", "levels", "places", "lengths"];
@@ -121,11 +152,7 @@ fn judge_read(
     }
     let untouched = Lent::given(stream, shift);
     same("stream bytes", &given, &untouched, &mut differences);
-    Outcome {
-        number: number_of(asked),
-        tag: tag_at(stream, asked),
-        differences,
-    }
+    Outcome::of(stream, asked, differences)
 }
 
 fn judge_pack(
@@ -159,11 +186,7 @@ fn judge_pack(
     }
     let untouched = Lent::given(bytes, shift);
     same("lent bytes", &given_bytes, &untouched, &mut differences);
-    Outcome {
-        number: number_of(asked),
-        tag: None,
-        differences,
-    }
+    Outcome::of(&[], asked, differences)
 }
 
 /// A call that only reads a section.
@@ -179,11 +202,7 @@ fn judge_question(
     same_answer(found, asked, &mut differences);
     let untouched = Lent::given(section, shift);
     same("section bytes", &given, &untouched, &mut differences);
-    Outcome {
-        number: number_of(asked),
-        tag: tag_at(section, asked),
-        differences,
-    }
+    Outcome::of(section, asked, differences)
 }
 
 /// What the subject says of a sheet that it made: check accepts it, and the field's text in it is the value.
@@ -238,12 +257,7 @@ fn judge_fill(
     if let Ok(made) = &result {
         read_back(made, filling, shift, subject, &mut differences);
     }
-    let outcome = Outcome {
-        number: number_of(asked),
-        tag: tag_at(section, asked),
-        differences,
-    };
-    (outcome, result)
+    (Outcome::of(section, asked, differences), result)
 }
 
 /// Two fills of different ids, each accepted alone, in both orders: the same bytes, or the one that fails is
@@ -316,11 +330,7 @@ fn judge_list(input: &[u8], most: usize, subject: &dyn Subject) -> Outcome {
         &mut differences,
     );
     let asked = answer_of(judged.map(|section| section.rows.len()));
-    Outcome {
-        number: number_of(asked),
-        tag: tag_at(input, asked),
-        differences,
-    }
+    Outcome::of(input, asked, differences)
 }
 
 /// Puts a case to the subject.

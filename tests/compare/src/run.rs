@@ -1,6 +1,5 @@
 //! A run: the cases of each service, what was reached and what differed.
 
-use crate::edges::reached;
 use crate::judge::{judge, Case};
 use crate::service::Service;
 use crate::subject::Subject;
@@ -32,8 +31,8 @@ pub fn run(service: Service, seed: u64, from: u64, to: u64, subject: &dyn Subjec
         if let Some(tag) = outcome.tag {
             *tally.named.entry((outcome.number, tag)).or_default() += 1;
         }
-        for edge in reached(&edges, &case, &outcome) {
-            *tally.edges.entry(edge.name.clone()).or_default() += 1;
+        for edge in edges.reached(&case, &outcome) {
+            *tally.edges.entry(edge).or_default() += 1;
         }
         if !outcome.differences.is_empty() {
             tally.differing += 1;
@@ -51,14 +50,14 @@ impl Tally {
     pub fn missed(&self, service: Service) -> Vec<String> {
         let numbers = service.numbers().iter();
         let named = service.named().iter();
-        let edges = service.edges().into_iter();
+        let edges = service.edges().names().into_iter();
         let missed = numbers.filter(|number| !self.numbers.contains_key(number));
         let unnamed = named.filter(|pair| !self.named.contains_key(pair));
-        let unmet = edges.filter(|edge| !self.edges.contains_key(&edge.name));
+        let unmet = edges.filter(|edge| !self.edges.contains_key(edge));
         missed
             .map(|number| format!("{number}"))
             .chain(unnamed.map(|(number, tag)| format!("{number} of a record {tag}")))
-            .chain(unmet.map(|edge| edge.name))
+            .chain(unmet)
             .collect()
     }
 

@@ -1,9 +1,13 @@
 //! The services that are compared: their cases, and the numbers and edges that must be reached.
 
+use crate::cases::faults::{self, Fault};
 use crate::cases::{docinfo, fills, packing, records, sections};
-use crate::edges::{self, Edge};
-use crate::judge::Case;
+use crate::edges::Edges;
+use crate::judge::{Case, Filling};
 use crate::random::Random;
+use crate::subject::Kind;
+use oracle::lister::INPUT;
+use oracle::LIMIT;
 
 #[derive(Clone, Copy, Debug, PartialEq, Eq)]
 pub enum Service {
@@ -30,8 +34,19 @@ pub const ALL: [Service; 9] = [
     Service::Lister,
 ];
 
-/// One case in this many has megabytes, or as much as the lister reads.
+/// One case in this many has megabytes, or as much as the lister reads, and one more has as much as the service takes
+/// and a chosen fault at its end.
 pub const LONG_EVERY: u64 = 1000;
+const LONG: u64 = 500;
+const LONG_FAULT: u64 = 250;
+
+/// One short case in this many has a chosen fault.
+const FAULT_EVERY: usize = 6;
+
+/// Whether the case with this index is short.
+pub fn is_short(index: u64) -> bool {
+    !matches!(index % LONG_EVERY, LONG | LONG_FAULT)
+}
 
 impl Service {
     pub fn name(self) -> &'static str {
@@ -89,11 +104,31 @@ impl Service {
         }
     }
 
-    /// The edges that a run must reach.
-    pub fn edges(self) -> Vec<Edge> {
+    /// The most bytes that it reads.
+    fn most(self) -> usize {
         match self {
-            Service::DocInfo => edges::docinfo(),
-            _ => Vec::new(),
+            Service::Lister => INPUT,
+            _ => LIMIT,
+        }
+    }
+
+    /// The edges that a run must reach.
+    pub fn edges(self) -> Edges {
+        match self {
+            Service::Pack | Service::TwoFills => Edges::default(),
+            Service::Read => Edges::of_records(self.most()),
+            Service::DocInfo => Edges::of_docinfo(self.most()),
+            _ => Edges::of_sections(self.most()),
+        }
+    }
+
+    /// The faults that are chosen for its cases.
+    fn faults(self) -> &'static [Fault] {
+        match self {
+            Service::Pack | Service::TwoFills => &[],
+            Service::Read => faults::OF_RECORDS,
+            Service::DocInfo => &faults::OF_DOCINFO,
+            _ => &faults::OF_SECTIONS,
         }
     }
 
@@ -101,15 +136,48 @@ impl Service {
     pub fn case(self, seed: u64, index: u64) -> (Case, usize) {
         let mut random = Random::of_case(seed, self as u64, index);
         let shift = random.below(8);
-        let case = if index % LONG_EVERY == LONG_EVERY / 2 {
-            self.long_case(&mut random, (index / LONG_EVERY) as usize)
-        } else {
-            self.short_case(&mut random)
+        let which = (index / LONG_EVERY) as usize;
+        let case = match index % LONG_EVERY {
+            LONG_FAULT if !self.faults().is_empty() => self.long_fault(&mut random, which),
+            LONG => self.long_case(&mut random, which),
+            _ => self.short_case(&mut random),
         };
         (case, shift)
     }
 
+    /// A case of as many bytes as the service takes, which is wrong at its end.
+    fn long_fault(self, random: &mut Random, which: usize) -> Case {
+        let faults = self.faults();
+        let stream = faults::long(random, faults[which % faults.len()], self.most());
+        self.refused(random, stream)
+    }
+
+    /// The case of a section or another stream that is refused, whatever else the call is given; its records have room.
+    fn refused(self, random: &mut Random, section: Vec<u8>) -> Case {
+        let id = random.next() as u32;
+        let value = vec![65, 0];
+        match self {
+            Service::Read => read_of(Kind::Records, section),
+            Service::DocInfo => read_of(Kind::DocInfo, section),
+            Service::Section => read_of(Kind::Section, section),
+            Service::FieldText => Case::FieldText { section, id },
+            Service::Fill => Case::Fill {
+                section,
+                filling: Filling { id, value },
+                sheet: random.below(5000),
+            },
+            Service::Lister => sections::listed(random, section),
+            Service::Check => Case::Check { section },
+            Service::Pack | Service::TwoFills => unreachable!("no fault is chosen for {self:?}"),
+        }
+    }
+
     fn short_case(self, random: &mut Random) -> Case {
+        if !self.faults().is_empty() && random.once_in(FAULT_EVERY) {
+            let fault = random.pick(self.faults());
+            let stream = faults::short(random, fault);
+            return self.refused(random, stream);
+        }
         match self {
             Service::Read => records::case(random),
             Service::Pack => packing::case(random),
@@ -135,5 +203,15 @@ impl Service {
             Service::TwoFills => fills::long_two_fills_case(random),
             Service::Lister => sections::long_list_case(random, which),
         }
+    }
+}
+
+/// A read with room for every record.
+fn read_of(kind: Kind, stream: Vec<u8>) -> Case {
+    let count = oracle::read(&stream, usize::MAX).map_or(3, |rows| rows.len());
+    Case::Read {
+        kind,
+        stream,
+        rooms: [count, count + 1, count + 2, count],
     }
 }

@@ -2,7 +2,7 @@
 
 use compare::judge::Case;
 use compare::run::run;
-use compare::service::Service;
+use compare::service::{is_short, Service, ALL};
 use compare::subject::Oracle;
 use oracle::records::{tile, word};
 use oracle::{check, field_text, fill, read_docinfo, Row};
@@ -30,7 +30,7 @@ impl Seen {
 }
 
 fn cases(service: Service) -> impl Iterator<Item = Case> {
-    let short = (0..CASES).filter(|index| index % 1000 != 500);
+    let short = (0..CASES).filter(|&index| is_short(index));
     short.map(move |index| service.case(1, index).0)
 }
 
@@ -200,12 +200,17 @@ fn docinfos_reach_the_edges() {
 
 /// The edges that a run itself demands are reached by the run of the gate, and each is missed where it is not.
 #[test]
-fn each_edge_of_docinfo_is_demanded() {
-    let mut tally = run(Service::DocInfo, 1, 0, 10_000, &Oracle);
-    assert_eq!(tally.missed(Service::DocInfo), [""; 0]);
-    for edge in Service::DocInfo.edges() {
-        let times = tally.edges.remove(&edge.name);
-        assert_eq!(tally.missed(Service::DocInfo), [edge.name.as_str()]);
-        tally.edges.extend(times.map(|times| (edge.name, times)));
+fn each_edge_is_demanded() {
+    let edged = ALL
+        .into_iter()
+        .filter(|service| !service.edges().names().is_empty());
+    for service in edged {
+        let mut tally = run(service, 1, 0, 10_000, &Oracle);
+        assert_eq!(tally.missed(service), [""; 0], "{service:?}");
+        for edge in service.edges().names() {
+            let times = tally.edges.remove(&edge);
+            assert_eq!(tally.missed(service), [edge.as_str()]);
+            tally.edges.extend(times.map(|times| (edge, times)));
+        }
     }
 }

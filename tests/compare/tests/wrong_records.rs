@@ -63,7 +63,7 @@ fn wrong_read(wrong: Read, stream: Given<u8>, lists: Lists) -> u64 {
     let mut at = 0;
     while at < bytes.len() {
         match wrong_record(wrong, bytes, at, rows.last().map(|row| row[1])) {
-            Err(number) => return answer(number, at, 0),
+            Err((number, place)) => return answer(number, place, 0),
             Ok(row) => {
                 if wrong == Read::GivesSevenWhereItIsMet && rows.len() == room {
                     return answer(7, at, 0);
@@ -115,10 +115,10 @@ fn wrong_record(
     bytes: &[u8],
     at: usize,
     before: Option<usize>,
-) -> Result<[usize; 4], u8> {
+) -> Result<[usize; 4], (u8, usize)> {
     let rest = bytes.len() - at;
     if rest < 4 {
-        return Err(2);
+        return Err((2, bytes.len()));
     }
     let header = word(bytes, at) as usize;
     let (tag, level, size) = (header % 1024, header / 1024 % 1024, header >> 20);
@@ -134,36 +134,36 @@ fn wrong_record(
     }
     let long = size == 4095 && wrong != Read::Takes4095AsPlainSize;
     if wrong == Read::JudgesLongCutBeforeTag && long && rest < 8 {
-        return Err(2);
+        return Err((2, bytes.len()));
     }
     for (broken, number) in faults {
         if broken {
-            return Err(number);
+            return Err((number, at));
         }
     }
     if !long {
         let past = usize::from(wrong == Read::TakesABodyOneBytePastTheEnd);
         return if size > rest - 4 + past {
-            Err(4)
+            Err((4, at))
         } else {
             Ok([tag, level, at + 4, size])
         };
     }
     if rest < 8 {
-        return Err(2);
+        return Err((2, bytes.len()));
     }
     let length = word(bytes, at + 4) as usize;
     let shortest = match wrong {
         Read::TakesLongLength4094 => 4094,
         _ => 4095,
     };
-    let mut faults = [(length < shortest, 3), (length > rest - 8, 4)];
+    let mut faults = [(length < shortest, 3, at + 4), (length > rest - 8, 4, at)];
     if wrong == Read::JudgesBodyBeforeLongLength {
         faults.reverse();
     }
-    for (broken, number) in faults {
+    for (broken, number, place) in faults {
         if broken {
-            return Err(number);
+            return Err((number, place));
         }
     }
     Ok([tag, level, at + 8, length])

@@ -7,7 +7,7 @@ use compare::lend::{Given, Room};
 use compare::run::run;
 use compare::service::Service;
 use compare::subject::{Kind, Lists, Oracle, Subject};
-use oracle::docinfo::{children, counts, groups, layout, Layout};
+use oracle::docinfo::{children, counts, group_ranges, groups, layout, Layout};
 use oracle::lister::INPUT;
 use oracle::records::{half, tile, word};
 use oracle::section::field_id_place;
@@ -122,10 +122,11 @@ fn accept(stream: &[u8]) -> u64 {
     answer(0, rows(stream).len(), 0)
 }
 
-/// The index of the record that a refusal names.
+/// The index of the record that a refusal names, or in which it names a byte.
 fn named(stream: &[u8], answer: u64) -> Option<usize> {
     let mut rows = rows(stream).into_iter();
-    rows.position(|row| row.header() == place_of(answer))
+    let place = place_of(answer);
+    rows.position(|row| (row.header()..row.end()).contains(&place))
 }
 
 fn named_tag(stream: &[u8], answer: u64) -> u32 {
@@ -292,19 +293,26 @@ fn recounted(stream: &[u8], found: u64, counting: &Counting) -> u64 {
     let Some(index) = index.filter(|_| judged) else {
         return found;
     };
-    let place = rows[index].header();
     let Some(layout) = (counting.layout)(rows[index].length) else {
-        return answer(17, place, 0);
+        return answer(17, rows[index].header(), 0);
     };
     let counts = counts(rows[index].body(stream), layout).into_iter();
     let counts: Vec<i64> = counts.map(counting.count).collect();
     let mut groups = groups(&counts);
     groups[1] = (counting.sum)(groups[1]);
-    let negative = counting.sign && counts.iter().any(|&count| count < 0);
-    let mut pairs = groups.into_iter().zip(children(&rows, index));
-    match !negative && pairs.all(|(count, number)| count == number) {
-        true => accept(stream),
-        false => answer(18, place, 0),
+    let negative = counts.iter().position(|&count| count < 0);
+    let mut groups = group_ranges(counts.len())
+        .zip(groups)
+        .zip(children(&rows, index));
+    let unmatched = groups.find(|((_, count), number)| count != number);
+    let unmatched = unmatched.map(|((counts, _), _)| counts.start);
+    match negative.filter(|_| counting.sign).or(unmatched) {
+        Some(nth) => answer(
+            18,
+            rows[index].place as usize + layout.width as usize * nth,
+            0,
+        ),
+        None => accept(stream),
     }
 }
 

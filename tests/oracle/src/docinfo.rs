@@ -2,6 +2,7 @@
 
 use crate::answer::{demand, refuse, Refusal};
 use crate::records::{half, read, word, Row};
+use std::ops::Range;
 
 const PROPERTIES: u32 = 16;
 const COUNTS: u32 = 17;
@@ -72,20 +73,30 @@ pub fn counts(body: &[u8], layout: Layout) -> Vec<i64> {
         .collect()
 }
 
-/// The counts by groups: the first, the sum of the next seven, and each one behind those.
-pub fn groups(counts: &[i64]) -> Vec<i64> {
-    let mut groups = vec![counts[0], counts[1..8].iter().sum()];
-    groups.extend(&counts[8..]);
-    groups
+/// The groups of so many counts: the first, the next seven together, and each one behind those.
+pub fn group_ranges(asked: usize) -> impl Iterator<Item = Range<usize>> {
+    let single = |nth| nth..nth + 1;
+    [0..1, 1..8].into_iter().chain((8..asked).map(single))
 }
 
-/// 18: no count is negative, and each group is the number of its children; where the sixteenth count is absent there
-/// is no tenth group, and its children are not asked about.
-fn rule_18(counts: &[i64], children: &[i64], place: usize) -> Result<(), Refusal> {
-    let groups = groups(counts);
-    let negative = counts.iter().any(|&count| count < 0);
-    let matched = groups == children[..groups.len()];
-    demand(!negative && matched, 18, place)
+/// The sum of each group of counts.
+pub fn groups(counts: &[i64]) -> Vec<i64> {
+    let ranges = group_ranges(counts.len());
+    ranges.map(|range| counts[range].iter().sum()).collect()
+}
+
+/// 18: no count is negative, refused at that count; then each group is the number of its children, refused at the
+/// group's first count. Where the sixteenth count is absent there is no tenth group, and its children are not asked
+/// about.
+fn rule_18(counts: &[i64], children: &[i64], place: usize, width: usize) -> Result<(), Refusal> {
+    for (nth, &count) in counts.iter().enumerate() {
+        demand(count >= 0, 18, place + width * nth)?;
+    }
+    let groups = group_ranges(counts.len()).zip(groups(counts));
+    for ((group, count), &number) in groups.zip(children) {
+        demand(count == number, 18, place + width * group.start)?;
+    }
+    Ok(())
 }
 
 /// DocInfo read.
@@ -95,6 +106,8 @@ pub fn read_docinfo(stream: &[u8], room: usize) -> Result<Vec<Row>, Refusal> {
     let record = rule_16(&rows, COUNTS)?;
     let layout = rule_17(&rows[properties], &rows[record])?;
     let counts = counts(rows[record].body(stream), layout);
-    rule_18(&counts, &children(&rows, record), rows[record].header())?;
+    let children = children(&rows, record);
+    let place = rows[record].place as usize;
+    rule_18(&counts, &children, place, layout.width as usize)?;
     Ok(rows)
 }

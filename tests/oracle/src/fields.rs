@@ -75,7 +75,7 @@ pub fn field_text(stream: &[u8], id: u32) -> Result<(usize, usize), Refusal> {
     let field = one_field(&section, id)?;
     let span = plain(&section, &field)?;
     let text = field.paragraph.child(TEXT).unwrap_or_default();
-    let start = section.rows[text].place as usize + 2 * span.a;
+    let start = section.unit_place(text, span.a);
     Ok((start, 2 * (span.b - span.a)))
 }
 

@@ -1,5 +1,5 @@
-//! The rules of document 01, with what document 02 has widened, in plain Rust, apart from the proved library: the tests
-//! compare the two.
+//! The rules of document 01, with what document 02 has widened and the places that it has moved, in plain Rust, apart
+//! from the proved library: the tests compare the two.
 
 pub mod answer;
 pub mod docinfo;

@@ -68,18 +68,19 @@ fn level_rule(before: Option<u32>, level: u32) -> bool {
     }
 }
 
-/// The record whose header stands at `at`, after a record of level `before`.
+/// The record whose header stands at `at`, after a record of level `before`. A header cut short is refused at the end
+/// of the stream, where its next byte is lacking.
 #[inline]
 fn read_record(stream: &[u8], at: usize, before: Option<u32>) -> Result<Row, Refusal> {
-    demand(stream.len() - at >= 4, 2, at)?;
+    demand(stream.len() - at >= 4, 2, stream.len())?;
     let header = word(stream, at);
     let (tag, level, size) = (header & 1023, header >> 10 & 1023, header >> 20);
     demand(tag >= LOWEST_TAG, 5, at)?;
     demand(level_rule(before, level), 6, at)?;
     let (length, place) = if size == LONG {
-        demand(stream.len() - at >= 8, 2, at)?;
+        demand(stream.len() - at >= 8, 2, stream.len())?;
         let length = word(stream, at + 4);
-        demand(length >= LONG, 3, at)?;
+        demand(length >= LONG, 3, at + 4)?;
         (length, at + 8)
     } else {
         (size, at + 4)
@@ -94,7 +95,7 @@ fn read_record(stream: &[u8], at: usize, before: Option<u32>) -> Result<Row, Ref
 }
 
 /// Visits every record of the stream, up to the first refusal; 7 is not asked. Gives the record count.
-fn each_record(stream: &[u8], mut visit: impl FnMut(usize, Row)) -> Result<usize, Refusal> {
+pub fn each_record(stream: &[u8], mut visit: impl FnMut(usize, Row)) -> Result<usize, Refusal> {
     demand(stream.len() <= LIMIT, 1, 0)?;
     let (mut at, mut count, mut before) = (0, 0, None);
     while at < stream.len() {

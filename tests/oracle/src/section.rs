@@ -121,6 +121,16 @@ impl Section<'_> {
         self.rows[index].header()
     }
 
+    /// The byte place of a position in the text record with this index.
+    pub fn unit_place(&self, text: usize, position: usize) -> usize {
+        self.rows[text].place as usize + 2 * position
+    }
+
+    /// The byte place of the nth entry of a record whose entries are all as long as this one.
+    fn entry_place(&self, index: usize, nth: usize, entry: &[u8]) -> usize {
+        self.rows[index].place as usize + entry.len() * nth
+    }
+
     pub fn numbers(&self, paragraph: &Paragraph) -> Numbers {
         let body = self.body(paragraph.header as usize);
         Numbers {
@@ -174,18 +184,17 @@ impl Section<'_> {
         Ok(())
     }
 
-    /// 12: the text rules. Gives the codes of the extended controls.
+    /// 12: the text rules, refused at the unit that breaks them. Gives the codes of the extended controls.
     fn rule_12(&self, paragraph: &Paragraph) -> Result<Vec<u16>, Refusal> {
-        match paragraph.child(TEXT) {
-            Some(index) => match text_rules(self.body(index)) {
-                Some(codes) => Ok(codes),
-                None => refuse(12, self.place(index)),
-            },
-            None => Ok(Vec::new()),
-        }
+        let Some(index) = paragraph.child(TEXT) else {
+            return Ok(Vec::new());
+        };
+        let codes = text_rules(self.body(index));
+        codes.or_else(|fault| refuse(12, self.unit_place(index, fault.at)))
     }
 
-    /// 13 of the shapes: the first start is 0, starts rise and are below the count.
+    /// 13 of the shapes: the first start is 0, starts rise and are below the count. Refused at the first entry that
+    /// breaks any of the three; of two starts that do not rise that is the later.
     fn rule_13_shapes(&self, paragraph: &Paragraph, numbers: &Numbers) -> Result<(), Refusal> {
         let Some(index) = paragraph.child(SHAPES) else {
             return Ok(());
@@ -196,20 +205,21 @@ impl Section<'_> {
             let good = start >= least
                 && (nth > 0 || start == 0)
                 && start < u64::from(numbers.count.max(1));
-            demand(good, 13, self.place(index))?;
+            demand(good, 13, self.entry_place(index, nth, entry))?;
             least = start + 1;
         }
         Ok(())
     }
 
-    /// 13 of the marks: start at most end, end at most the count.
+    /// 13 of the marks: start at most end, end at most the count. Refused at the first entry that breaks either.
     fn rule_13_marks(&self, paragraph: &Paragraph, numbers: &Numbers) -> Result<(), Refusal> {
         let Some(index) = paragraph.child(MARKS) else {
             return Ok(());
         };
-        for entry in self.body(index).chunks_exact(12) {
+        for (nth, entry) in self.body(index).chunks_exact(12).enumerate() {
             let (start, end) = (word(entry, 0), word(entry, 4));
-            demand(start <= end && end <= numbers.count, 13, self.place(index))?;
+            let good = start <= end && end <= numbers.count;
+            demand(good, 13, self.entry_place(index, nth, entry))?;
         }
         Ok(())
     }

@@ -15,11 +15,32 @@ pub enum Stands {
     Control(Class, u16),
 }
 
-/// What a walk meets: a good step with its position, or a place where the text cannot be read on.
+/// How a text breaks the rules.
 #[derive(Clone, Copy, Debug, PartialEq, Eq)]
-pub enum Step {
-    At(usize, Stands),
-    Broken,
+pub enum Wrong {
+    Zero,
+    EndBeforeTheEnd,
+    ControlCutShort,
+    ClosingCode,
+    EndLacking,
+}
+
+/// How the rules are broken, and the position of the unit that breaks them; it is behind the last unit where 13 lacks.
+#[derive(Clone, Copy, Debug, PartialEq, Eq)]
+pub struct Fault {
+    pub wrong: Wrong,
+    pub at: usize,
+}
+
+fn fault<T>(wrong: Wrong, at: usize) -> Result<T, Fault> {
+    Err(Fault { wrong, at })
+}
+
+/// A good step of a walk: where it stood and what stands there.
+#[derive(Clone, Copy, Debug, PartialEq, Eq)]
+pub struct Step {
+    pub at: usize,
+    pub stands: Stands,
 }
 
 pub const END: u16 = 13;
@@ -61,67 +82,88 @@ impl Walk<'_> {
     }
 
     /// An eight-unit control is whole and ends with its own code.
-    fn closed(&self, code: u16) -> bool {
+    fn closed(&self, code: u16) -> Result<(), Fault> {
         let last = self.position + EIGHT - 1;
-        last < self.units() && self.unit(last) == code
+        if last >= self.units() {
+            return fault(Wrong::ControlCutShort, self.position);
+        }
+        if self.unit(last) != code {
+            return fault(Wrong::ClosingCode, last);
+        }
+        Ok(())
+    }
+
+    /// What stands at the present position, and how many positions it takes.
+    fn look(&self) -> Result<(Stands, usize), Fault> {
+        let unit = self.unit(self.position);
+        if unit >= 32 {
+            return Ok((Stands::Ordinary(unit), 1));
+        }
+        let Some(class) = class_of(unit) else {
+            return fault(Wrong::Zero, self.position);
+        };
+        let stands = Stands::Control(class, unit);
+        if class == Class::One {
+            return Ok((stands, 1));
+        }
+        self.closed(unit)?;
+        Ok((stands, EIGHT))
     }
 }
 
 impl Iterator for Walk<'_> {
-    type Item = Step;
+    type Item = Result<Step, Fault>;
 
-    fn next(&mut self) -> Option<Step> {
+    /// The walk ends behind a fault: the text cannot be read on from there.
+    fn next(&mut self) -> Option<Result<Step, Fault>> {
         if self.position >= self.units() {
             return None;
         }
         let at = self.position;
-        let unit = self.unit(at);
-        if unit >= 32 {
-            self.position += 1;
-            return Some(Step::At(at, Stands::Ordinary(unit)));
-        }
-        let width = match class_of(unit) {
-            Some(Class::One) => 1,
-            Some(_) if self.closed(unit) => EIGHT,
-            _ => {
-                self.position = self.units();
-                return Some(Step::Broken);
-            }
-        };
-        self.position += width;
-        class_of(unit).map(|class| Step::At(at, Stands::Control(class, unit)))
+        let looked = self.look();
+        self.position = looked.map_or(self.units(), |(_, width)| at + width);
+        Some(looked.map(|(stands, _)| Step { at, stands }))
     }
 }
 
 /// The text rules: every unit can be read, and 13 stands at the end and only there.
 /// Gives the codes of the extended controls where they hold.
-pub fn text_rules(text: &[u8]) -> Option<Vec<u16>> {
+pub fn text_rules(text: &[u8]) -> Result<Vec<u16>, Fault> {
     let mut codes = Vec::new();
+    let units = text.len() / 2;
     let mut ended = false;
     for step in walk(text) {
-        match step {
-            _ if ended => return None,
-            Step::Broken => return None,
-            Step::At(_, Stands::Control(Class::One, END)) => ended = true,
-            Step::At(_, Stands::Control(Class::Extended, code)) => codes.push(code),
-            Step::At(..) => {}
+        let Step { at, stands } = step?;
+        match stands {
+            Stands::Control(_, END) if at + 1 < units => return fault(Wrong::EndBeforeTheEnd, at),
+            Stands::Control(_, END) => ended = true,
+            Stands::Control(Class::Extended, code) => codes.push(code),
+            _ => {}
         }
     }
-    ended.then_some(codes)
+    if !ended {
+        return fault(Wrong::EndLacking, units);
+    }
+    Ok(codes)
+}
+
+/// The controls from a position on: position, class and code.
+fn controls(text: &[u8], position: usize) -> impl Iterator<Item = (usize, Class, u16)> + '_ {
+    let steps = walk_from(text, position).flatten();
+    steps.filter_map(|step| match step.stands {
+        Stands::Control(class, code) => Some((step.at, class, code)),
+        Stands::Ordinary(_) => None,
+    })
 }
 
 /// The extended controls in order: position and code.
 pub fn extended(text: &[u8]) -> impl Iterator<Item = (usize, u16)> + '_ {
-    walk(text).filter_map(|step| match step {
-        Step::At(at, Stands::Control(Class::Extended, code)) => Some((at, code)),
-        _ => None,
-    })
+    let extended = controls(text, 0).filter(|(_, class, _)| *class == Class::Extended);
+    extended.map(|(at, _, code)| (at, code))
 }
 
 /// The first unit below 32 from a position on, with its position.
 pub fn next_control(text: &[u8], position: usize) -> Option<(usize, u16)> {
-    walk_from(text, position).find_map(|step| match step {
-        Step::At(at, Stands::Control(_, code)) => Some((at, code)),
-        _ => None,
-    })
+    let first = controls(text, position).next();
+    first.map(|(at, _, code)| (at, code))
 }

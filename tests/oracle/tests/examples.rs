@@ -1,4 +1,5 @@
-//! Document 01's examples: the pairs at each edge and the lister's input; and of document 02 the counts' two widths.
+//! Document 01's examples: the pairs at each edge and the lister's input; and of document 02 the counts' two widths,
+//! and the places that point at the byte.
 
 use oracle::records::header_of;
 use oracle::{answer, check, field_text, fill, list, pack, read, read_docinfo, read_section};
@@ -83,7 +84,7 @@ fn starts_of(stream: &[u8]) -> Vec<(u32, u32)> {
 #[test]
 fn empty_stream_and_three_bytes() {
     assert_eq!(read(&[], 0), Ok(vec![]));
-    assert_eq!(read(&[0x42, 0, 0], 9), refused(2, 0));
+    assert_eq!(read(&[0x42, 0, 0], 9), refused(2, 3));
     assert_eq!(check(&[]), Ok(0));
 }
 
@@ -101,8 +102,36 @@ fn body_of_4094_and_4095() {
     assert_eq!(record(20, 0, &[1; 4095]).len(), 4103);
     let mut long = record(20, 0, &[1; 4095]);
     long[4..8].copy_from_slice(&4094u32.to_le_bytes());
-    assert_eq!(read(&long, 1), refused(3, 0));
-    assert_eq!(read(&long[..7], 1), refused(2, 0));
+    assert_eq!(read(&long, 1), refused(3, 4));
+    assert_eq!(read(&long[..7], 1), refused(2, 7));
+}
+
+#[test]
+fn a_cut_header_is_named_by_the_streams_end() {
+    let before = record(20, 0, &[1; 9]);
+    for (start, level) in [(&[][..], 0), (&before, 1)] {
+        let long = header_of(20, level, 4095);
+        for left in 1..8 {
+            let stream = [start, &long[..left]].concat();
+            assert_eq!(read(&stream, 9), refused(2, stream.len()), "{left}");
+        }
+    }
+    let most = record(20, 0, &vec![0; LIMIT - 11]);
+    assert_eq!(read(&[most, vec![66, 0, 0]].concat(), 9), refused(2, LIMIT));
+}
+
+#[test]
+fn a_short_long_length_is_named_itself() {
+    let before = record(20, 0, &[1; 9]);
+    for (start, level, length) in [(&[][..], 0, 0u32), (&before, 1, 4094), (&before, 0, 1)] {
+        let mut header = header_of(20, level, 4095);
+        header[4..].copy_from_slice(&length.to_le_bytes());
+        let stream = [start, &header].concat();
+        assert_eq!(read(&stream, 9), refused(3, start.len() + 4));
+        // the stream ends behind the length, or bytes follow that would fit it
+        let longer = [stream, vec![0; 4094]].concat();
+        assert_eq!(read(&longer, 9), refused(3, start.len() + 4));
+    }
 }
 
 #[test]
@@ -180,11 +209,8 @@ fn text_pairs() {
     nine.push(13);
     assert_eq!(check(&paragraph(&nine, &[0], 0)), Ok(3));
     nine[7] = 8;
-    assert_eq!(check(&paragraph(&nine, &[0], 0)), refused(12, 26));
-    assert_eq!(check(&paragraph(&[65, 0, 13], &[0], 0)), refused(12, 26));
-    assert_eq!(check(&paragraph(&[13, 13], &[0], 0)), refused(12, 26));
-    assert_eq!(check(&paragraph(&[65, 66], &[0], 0)), refused(12, 26));
-    assert_eq!(check(&paragraph(&control(9), &[0], 0)), refused(12, 26));
+    // the eighth unit, of a body that stands at 30
+    assert_eq!(check(&paragraph(&nine, &[0], 0)), refused(12, 30 + 14));
 }
 
 #[test]
@@ -272,6 +298,11 @@ fn counts(width: usize, counts: &[i64]) -> Vec<u8> {
         .collect()
 }
 
+/// The refusal at the count with this index, in the body of record 17, which stands at 38.
+fn wrong_count(width: usize, nth: usize) -> Result<usize, Refusal> {
+    refused(18, 38 + width * nth)
+}
+
 /// What DocInfo read says where the right counts are changed, in so many bytes.
 fn changed(width: usize, length: usize, changes: &[(usize, i64)]) -> Result<usize, Refusal> {
     let mut values = [RIGHT.to_vec(), vec![0; 16]].concat();
@@ -297,17 +328,18 @@ fn lengths_of_the_counts() {
     for length in 28..=80 {
         let asked = match length {
             60 | 64 | 68 | 72 | 76 | 80 => Ok(5),
-            // eight counts of 32 bits are not sixteen of 16
-            32 => refused(18, 34),
+            // eight counts of 32 bits are not sixteen of 16: the last says no child with tag 92
+            32 => wrong_count(2, 15),
             _ => refused(17, 34),
         };
         assert_eq!(changed(4, length, &[]), asked, "{length}");
     }
     assert_eq!(changed(2, 32, &[]), Ok(5));
-    // sixteen counts of 16 bits are not those of 32
-    assert_eq!(changed(2, 64, &[]), refused(18, 34));
+    // sixteen counts of 16 bits are not those of 32: the second says 65,536
+    assert_eq!(changed(2, 64, &[]), wrong_count(4, 1));
     let long = |length| read_docinfo(&docinfo_with(&vec![0; length]), 5);
-    assert_eq!(long(4096), refused(18, 34));
+    // the body of a long record stands four bytes later
+    assert_eq!(long(4096), refused(18, 42 + 4));
     assert_eq!(long(4097), refused(17, 34));
 }
 
@@ -315,30 +347,51 @@ fn lengths_of_the_counts() {
 fn one_rule_over_the_width() {
     for (width, length, lowest) in [(2, 32, -32_768), (4, 64, -(1 << 31)), (4, 72, -(1 << 31))] {
         let say = |changes: &[(usize, i64)]| changed(width, length, changes);
-        for nth in 0..16 {
-            assert_eq!(say(&[(nth, RIGHT[nth] + 1)]), refused(18, 34), "{nth}");
-            assert_eq!(say(&[(nth, lowest)]), refused(18, 34), "{nth}");
+        for (nth, right) in RIGHT.into_iter().enumerate() {
+            // of the seven that are asked together the first is named
+            let first = if nth < 8 { nth.min(1) } else { nth };
+            let one_more = say(&[(nth, right + 1)]);
+            assert_eq!(one_more, wrong_count(width, first), "{nth}");
+            assert_eq!(say(&[(nth, lowest)]), wrong_count(width, nth), "{nth}");
         }
         // the sum alone is asked of the seven, but none of them is negative
         assert_eq!(say(&[(3, 0), (7, 1)]), Ok(5));
-        assert_eq!(say(&[(3, 2), (4, -1)]), refused(18, 34));
+        assert_eq!(say(&[(3, 2), (4, -1)]), wrong_count(width, 4));
         let highest = -lowest - 1;
         let kept = [(1, lowest), (2, highest), (3, 1), (4, 1)];
-        assert_eq!(say(&kept), refused(18, 34));
+        assert_eq!(say(&kept), wrong_count(width, 1));
         // a sum that is right only where it wraps
-        assert_eq!(say(&[(1, highest), (2, highest), (3, 3)]), refused(18, 34));
+        let wrapped = [(1, highest), (2, highest), (3, 3)];
+        assert_eq!(say(&wrapped), wrong_count(width, 1));
     }
     let quarter = 1 << 30;
     let four = [1, 2, 4, 5].map(|nth| (nth, quarter));
-    assert_eq!(changed(4, 60, &four), refused(18, 34));
-    assert_eq!(changed(4, 64, &[(8, 1 << 16)]), refused(18, 34));
+    assert_eq!(changed(4, 60, &four), wrong_count(4, 1));
+    assert_eq!(changed(4, 64, &[(8, 1 << 16)]), wrong_count(4, 8));
+}
+
+#[test]
+fn a_negative_count_is_named_before_any_group() {
+    for (width, length) in [(2, 32), (4, 64)] {
+        let say = |changes: &[(usize, i64)]| changed(width, length, changes);
+        let named = |nth| wrong_count(width, nth);
+        assert_eq!(say(&[(0, 1), (15, -1)]), named(15));
+        assert_eq!(say(&[(3, 9), (8, 1), (9, -1)]), named(9));
+        // within the seven too, where the first of them would be the group's
+        assert_eq!(say(&[(1, 9), (7, -1)]), named(7));
+        assert_eq!(say(&[(9, -1), (12, -1)]), named(9));
+        // of groups that do not match the first
+        assert_eq!(say(&[(7, 1), (8, 1), (15, 0)]), named(1));
+        assert_eq!(say(&[(14, 1), (15, 0)]), named(14));
+    }
+    assert_eq!(changed(4, 60, &[(0, 1), (14, -1)]), wrong_count(4, 14));
 }
 
 #[test]
 fn the_sixteenth_count_and_later_ones() {
     assert_eq!(changed(4, 60, &[(15, 7)]), Ok(5));
-    assert_eq!(changed(4, 60, &[(14, 1)]), refused(18, 34));
-    assert_eq!(changed(4, 64, &[(15, 0)]), refused(18, 34));
+    assert_eq!(changed(4, 60, &[(14, 1)]), wrong_count(4, 14));
+    assert_eq!(changed(4, 64, &[(15, 0)]), wrong_count(4, 15));
     assert_eq!(changed(4, 64, &[(16, -1)]), Ok(5));
     assert_eq!(changed(4, 72, &[(16, -(1 << 31)), (17, 9)]), Ok(5));
     // without the count, no child with tag 92 is right too
@@ -346,8 +399,8 @@ fn the_sixteenth_count_and_later_ones() {
     assert_eq!(read_docinfo(&none, 2).map(|rows| rows.len()), Ok(2));
 }
 
-#[test]
-fn lister() {
+/// Document 01's input of the lister.
+fn listed() -> Vec<u8> {
     let mut input = vec![0x42, 0x00, 0x60, 0x01, 2, 0, 0, 0];
     input.extend([0; 8]);
     input.extend([1, 0]);
@@ -355,12 +408,30 @@ fn lister() {
     input.extend([0x43, 0x04, 0x40, 0x00, 0x41, 0x00, 0x0D, 0x00]);
     input.extend([0x44, 0x04, 0x80, 0x00]);
     input.extend([0; 8]);
+    input
+}
+
+#[test]
+fn lister() {
+    let input = listed();
     assert_eq!(input.len(), 46);
     assert_eq!(list(&input), "0 66 0 22\n26 67 1 4\n34 68 1 8\nok 3\n");
     assert_eq!(list(&input[..45]), "refused 4 at 34\n");
     assert_eq!(list(&[]), "ok 0\n");
     assert_eq!(list(&vec![0; 65_537]), "refused 1 at 0\n");
     assert_eq!(read_section(&input, 2), refused(7, 34));
+}
+
+#[test]
+fn the_lister_points_at_the_byte() {
+    let mut input = listed();
+    assert_eq!(list(&input[..37]), "refused 2 at 37\n");
+    input[38] = 1;
+    assert_eq!(list(&input), "refused 13 at 38\n");
+    input[32] = 65;
+    assert_eq!(list(&input), "refused 12 at 34\n");
+    input[30] = 0;
+    assert_eq!(list(&input), "refused 12 at 30\n");
 }
 
 #[test]

@@ -253,7 +253,11 @@ fn two_parts(random: &mut Random, damage: usize) -> Vec<Part> {
     let mut form = Form::right(random);
     let mut present = groups;
     match damage {
-        0..=2 => break_counts(random, &mut counts, form),
+        0..=2 => {
+            for _ in 0..random.pick(&[1, 1, 1, 2, 3]) {
+                break_counts(random, &mut counts, form);
+            }
+        }
         3 => present[random.pick(&[0, 1, 2, 3, 4, 5, 6, 7, 8, 8, 9, 9])] += 1,
         4..=6 => form = Form::any(random),
         _ => {}
@@ -312,6 +316,26 @@ pub fn case(random: &mut Random) -> Case {
         stream,
         rooms,
     }
+}
+
+/// Records 16 and 17 without children, so that every count is 0 but one or two: negative ones, or groups that do not
+/// match. The last that is asked is one of them where it must be the `last`.
+pub fn childless(random: &mut Random, negative: bool, last: bool) -> Part {
+    let long = wide(if last { 64 } else { 4096 });
+    let form = random.pick(&[NARROW, NARROW, NARROW, wide(60), wide(64), long]);
+    let asked = (form.length / form.width).min(16);
+    let mut counts = [0; 16];
+    if !last {
+        counts[random.below(asked)] = 1;
+    }
+    let any = random.below(asked);
+    counts[if last { asked - 1 } else { any }] = match negative {
+        true => random.pick(&[-1, -form.highest() - 1]),
+        false => random.pick(&[1, form.highest()]),
+    };
+    let mut part = properties(random);
+    part.push(Draft::new(17, 0, form.body(random, &counts)));
+    part
 }
 
 /// The number of kinds of long cases.

@@ -2,6 +2,7 @@
 
 pub mod damage;
 pub mod docinfo;
+pub mod faults;
 pub mod fills;
 pub mod packing;
 pub mod paragraphs;

@@ -315,7 +315,7 @@ impl Builder<'_> {
         }
     }
 
-    fn header_body(&mut self, count: usize, numbers: [usize; 3]) -> Vec<u8> {
+    pub fn header_body(&mut self, count: usize, numbers: [usize; 3]) -> Vec<u8> {
         let mut body = self.random.bytes(22);
         let flag = self.random.pick(&[0u32, 0, 1 << 31]);
         body[0..4].copy_from_slice(&(count as u32 | flag).to_le_bytes());

@@ -60,12 +60,18 @@ pub fn check_case(random: &mut Random) -> Case {
 
 /// A record of a tag that no rule is about, which makes a section as long as is asked.
 pub fn padding(random: &mut Random, length: usize) -> Draft {
+    let tag = random.pick(&[16, 73, 200, 1023]);
+    padding_of(random, tag, length)
+}
+
+/// A record with the tag, of so many bytes with its header.
+pub fn padding_of(random: &mut Random, tag: u32, length: usize) -> Draft {
     let body = if length < 4103 {
         length - 4
     } else {
         length - 8
     };
-    Draft::new(random.pick(&[16, 73, 200, 1023]), 0, random.bytes(body))
+    Draft::new(tag, 0, random.bytes(body))
 }
 
 /// A lawful section of real shape of exactly this many bytes, and the ids of its fields.
@@ -160,7 +166,7 @@ pub fn long_check_case(random: &mut Random, which: usize) -> Case {
 }
 
 /// An input of the lister, which comes whole or in parts.
-fn listed(random: &mut Random, input: Vec<u8>) -> Case {
+pub fn listed(random: &mut Random, input: Vec<u8>) -> Case {
     let most = random.pick(&[usize::MAX, usize::MAX, 4096, 7, 1]);
     Case::List { input, most }
 }

@@ -1,11 +1,12 @@
 -- What stands at a place is what `aheadOf` has. Assumes nothing.
 use borrow.Author.Needs.{needs}
 use native.Mathlib.Omega.{arith}
-use Prim.Native.Nat.{_+_}
+use Prim.Native.Nat.{_+_, _≤_}
 use mathlib.Core.Path.{sym, _∙_}
+use lib.ListN.{length}
 use Rattle.numbers.proofs.LittleLaws.{slice-bytes}
 use Rattle.records.specs.Reading.{offset}
-use Rattle.records.proofs.ReadingLaws.{Here, here, ahead-record, ahead-refused, ahead-end}
+use Rattle.records.proofs.ReadingLaws.{Here, here, ahead-record, ahead-refused, ahead-inside, ahead-end}
 use Rattle.records.proofs.header.record_at.Statement.{statement}
 use Rattle.records.proofs.header.record_at.Tie as tie
 use Rattle.records.proofs.header.record_at.Reads as reads
@@ -48,11 +49,21 @@ add-next c = omega (arith, its (c .before .before .before) .next-is, its (c .bef
 enum-known-f : tie.Need-enum-known-f
 enum-known-f c = search needs
 
+-- the fault that was read is in the stream
+abbrev entry : tie.After-f → tie.Start
+entry c = c .before .before .before .before .before .before
+
+fault-there : (c : tie.After-f) → entry c .args .at .0 + c .f .given .0 .0 .place .0 ≤ length (entry c .args .s .now)
+fault-there c = ahead-inside (entry c .args .s .now) _ _ (c .before .before .before .before .if1 .left) _ (sym (c .before .before .first .ensures) ∙ c .f .given .1)
+
+add-wrong : tie.Need-add-wrong
+add-wrong c = omega (arith, fault-there (c .before .before .before))
+
 returns-2 : tie.Need-returns-2
 returns-2 c = let d = c .before .before .before in ahead-record _ _ _ (d .before .before .before .before .if1 .left) _ (sym (d .before .before .first .ensures) ∙ d .h .given .1)
 
 returns-3 : tie.Need-returns-3
-returns-3 c = ahead-refused _ _ _ (c .before .before .before .before .before .if1 .left) _ (sym (c .before .before .before .first .ensures) ∙ c .before .f .given .1)
+returns-3 c = let d = c .before .before .before in ahead-refused _ _ _ (d .before .before .before .before .if1 .left) _ (sym (d .before .before .first .ensures) ∙ d .f .given .1)
 
 pub record-at-spec : {M : Type 1} → statement M
 record-at-spec =
@@ -67,5 +78,6 @@ record-at-spec =
     add-body
     add-next
     enum-known-f
+    add-wrong
     returns-2
     returns-3)

@@ -74,14 +74,10 @@ loop-again c = let d = c .before .before .before .before in scan-next _ _ _ _ _ 
 enum-known-f : tie.Need-enum-known-f Inv-loop μ-loop
 enum-known-f c = search needs
 
-refused-requires-2 : tie.Need-refused-requires-2 Inv-loop μ-loop
-refused-requires-2 c κs = search needs
-
 returns-2 : tie.Need-returns-2 Inv-loop μ-loop
 returns-2 c =
-    let l = c .before .before .before .before .before in
-    c .refused2 .ensures
-    ∙ sym (l .loop .inv .rest ∙ ap (answerFrom _ _ _ _) (stops-here _ _ _ _ (sym (c .before .before .before .before .record-at .ensures) ∙ c .before .before .f .given .1)) ∙ answer-stop _ _ _ _ _)
+    let l = c .before .before .before .before in
+    answer-stop _ _ _ _ _ _ (stops-here _ _ _ _ (sym (c .before .before .before .record-at .ensures) ∙ c .before .f .given .1)) ∙ sym (l .loop .inv .rest)
 
 enum-told : tie.Need-enum-told Inv-loop μ-loop
 enum-told c = search needs
@@ -92,14 +88,14 @@ at-end : (c : tie.After-enum-told Inv-loop μ-loop)
     ≡ answerFrom (c .before .before .before .before .before .before .args .room) (c .before .before .before .loop .n) (c .before .before .before .loop .over .0) (c .before .before .before .loop .at .0) (record { recs = []; stop = none })
 at-end c = c .before .before .before .loop .inv .rest ∙ ap (answerFrom _ _ _ _) (ends-here _ _ _ (sym (c .before .before .record-at .ensures) ∙ c .enum-told .given .1))
 
-refused-requires-3 : tie.Need-refused-requires-3 Inv-loop μ-loop
-refused-requires-3 c κs = search needs
+refused-requires-2 : tie.Need-refused-requires-2 Inv-loop μ-loop
+refused-requires-2 c κs = search needs
 
 returns-3 : tie.Need-returns-3 Inv-loop μ-loop
 returns-3 c = sym (at-end (c .before) ∙ answer-fits _ _ _ _ (c .if3 .taken))
 
 returns-4 : tie.Need-returns-4 Inv-loop μ-loop
-returns-4 c = c .refused3 .ensures ∙ sym (at-end (c .before .before) ∙ answer-over _ _ _ _ (c .before .if3 .left))
+returns-4 c = c .refused2 .ensures ∙ sym (at-end (c .before .before) ∙ answer-over _ _ _ _ (c .before .if3 .left))
 
 pub scan-spec : {M : Type 1} → statement M
 scan-spec =
@@ -117,9 +113,8 @@ scan-spec =
     loop-less
     loop-again
     enum-known-f
-    refused-requires-2
     returns-2
     enum-told
-    refused-requires-3
+    refused-requires-2
     returns-3
     returns-4)

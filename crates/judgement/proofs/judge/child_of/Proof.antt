@@ -1,17 +1,14 @@
--- The place of a child is `childPlace`. Assumes nothing.
+-- A paragraph's child is `childIn`. Assumes nothing.
 use native.Mathlib.Omega.{arith}
-use mathlib.Core.Path.{sym, ap, _∙_}
+use mathlib.Core.Path.{sym, _∙_}
 use Rattle.numbers.proofs.LittleLaws.{slice-bytes}
 use Rattle.paragraph.proofs.StreamLaws.{Read, read-at, none-at}
-use Rattle.records.specs.Reading.{offset}
-use Rattle.paragraph.specs.Places.{placeFound}
-use Rattle.judgement.proofs.JudgeLaws.{front-place, place-none}
+use Rattle.judgement.proofs.JudgeLaws.{front-child, child-none}
 use borrow.Author.Needs.{needs}
-use Rattle.judgement.proofs.judge.child_place.Statement.{statement}
-use Rattle.judgement.proofs.judge.child_place.Tie as tie
-use Rattle.judgement.proofs.judge.child_place.Reads as reads
-use Rattle.judgement.proofs.judge.child_place.Lts as lts
-use Rattle.judgement.proofs.judge.place_found.Reads as place-found-reads
+use Rattle.judgement.proofs.judge.child_of.Statement.{statement}
+use Rattle.judgement.proofs.judge.child_of.Tie as tie
+use Rattle.judgement.proofs.judge.child_of.Reads as reads
+use Rattle.judgement.proofs.judge.child_of.Lts as lts
 use Rattle.paragraph.proofs.find.Reads as find-reads
 use Rattle.records.proofs.record_at.Reads as record-at-reads
 
@@ -31,7 +28,7 @@ its c =
     (sym (c .before .before .record-at .ensures) ∙ c .r .given .1)
 
 returns : tie.Need-returns
-returns c = ap offset (place-none _ _ _ _ (none-at _ _ _ (c .before .record-at .ensures) (c .match .keys2)))
+returns c = child-none _ _ _ _ (none-at _ _ _ (c .before .record-at .ensures) (c .match .keys2))
 
 add-find : tie.Need-add-find
 add-find c = omega (arith, its (c .before .before .before) .level-is, its (c .before .before .before) .stands .level-high)
@@ -39,14 +36,11 @@ add-find c = omega (arith, its (c .before .before .before) .level-is, its (c .be
 find-requires : tie.Need-find-requires
 find-requires c κs = search needs
 
-place-found-requires : tie.Need-place-found-requires
-place-found-requires c κs = search needs
-
 returns-2 : tie.Need-returns-2
-returns-2 c = let d = c .before .before .before .before .before in front-place _ _ (its d) _ _ _ (c .place-found .ensures ∙ ap (λ f. offset (placeFound (start d .args .at .0) f)) (c .before .find .ensures))
+returns-2 c = let d = c .before .before .before .before in front-child _ _ (its d) _ _ _ (c .find .ensures)
 
-pub child-place-spec : {M : Type 1} → statement M
-child-place-spec =
+pub child-of-spec : {M : Type 1} → statement M
+child-of-spec =
     tie.close
     (tie.spec
     record-at-requires
@@ -54,5 +48,4 @@ child-place-spec =
     returns
     add-find
     find-requires
-    place-found-requires
     returns-2)

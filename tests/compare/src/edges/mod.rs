@@ -1,0 +1,130 @@
+//! Edges: what cases show that no number tells apart. A run must reach each edge of its service.
+
+mod counts;
+mod entries;
+mod headers;
+mod texts;
+
+pub use counts::Counted;
+pub use entries::Entry;
+pub use headers::Header;
+pub use texts::Text;
+
+use crate::judge::{Case, Outcome};
+use oracle::Row;
+
+/// An edge is reached by a case with this number of which the question is true.
+pub struct Edge<T> {
+    name: String,
+    number: u8,
+    holds: Box<dyn Fn(&T) -> bool>,
+}
+
+impl<T> Edge<T> {
+    fn new(name: impl Into<String>, number: u8, holds: impl Fn(&T) -> bool + 'static) -> Edge<T> {
+        Edge {
+            name: name.into(),
+            number,
+            holds: Box::new(holds),
+        }
+    }
+}
+
+/// Those of the edges that a case with the number reaches, where it shows what they are asked of.
+fn met<T>(edges: &[Edge<T>], number: u8, shown: impl FnOnce() -> Option<T>) -> Vec<String> {
+    let asked = edges.iter().filter(|edge| edge.number == number);
+    let asked: Vec<&Edge<T>> = asked.collect();
+    if asked.is_empty() {
+        return Vec::new();
+    }
+    let shown = shown();
+    let holds = |edge: &&Edge<T>| shown.as_ref().is_some_and(|shown| (edge.holds)(shown));
+    let met = asked.into_iter().filter(holds);
+    met.map(|edge| edge.name.clone()).collect()
+}
+
+fn names<T>(edges: &[Edge<T>]) -> Vec<String> {
+    edges.iter().map(|edge| edge.name.clone()).collect()
+}
+
+/// The edges of one service.
+#[derive(Default)]
+pub struct Edges {
+    headers: Vec<Edge<Header>>,
+    texts: Vec<Edge<Text>>,
+    entries: Vec<Edge<Entry>>,
+    counts: Vec<Edge<Counted>>,
+}
+
+impl Edges {
+    /// Those of 2 and 3, which every read of streams of at most so many bytes has.
+    pub fn of_records(most: usize) -> Edges {
+        Edges {
+            headers: headers::edges(most),
+            ..Edges::default()
+        }
+    }
+
+    pub fn of_sections(most: usize) -> Edges {
+        Edges {
+            texts: texts::edges(most),
+            entries: entries::edges(most),
+            ..Edges::of_records(most)
+        }
+    }
+
+    pub fn of_docinfo(most: usize) -> Edges {
+        Edges {
+            counts: counts::edges(most),
+            ..Edges::of_records(most)
+        }
+    }
+
+    pub fn names(&self) -> Vec<String> {
+        let names = [
+            names(&self.headers),
+            names(&self.texts),
+            names(&self.entries),
+            names(&self.counts),
+        ];
+        names.concat()
+    }
+
+    /// The edges that a case reaches.
+    pub fn reached(&self, case: &Case, outcome: &Outcome) -> Vec<String> {
+        let Some(stream) = case.stream() else {
+            return Vec::new();
+        };
+        let (number, place) = (outcome.number, outcome.place);
+        let met = [
+            met(&self.headers, number, || Some(Header::of(stream))),
+            met(&self.texts, number, || Text::of(stream, place)),
+            met(&self.entries, number, || Entry::of(stream, place)),
+            met(&self.counts, number, || Counted::of(stream, outcome)),
+        ];
+        met.concat()
+    }
+}
+
+/// Something has this place among so many.
+type Among = fn(usize, usize) -> bool;
+
+const FIRST: (&str, Among) = ("first", |at, _| at == 0);
+const MIDDLE: (&str, Among) = ("middle", |at, of| at > 0 && at + 1 < of);
+const LAST: (&str, Among) = ("last", |at, of| at + 1 == of);
+
+/// How many control headers a record stands below: a paragraph in a table stands below that of the table.
+fn tables_above(rows: &[Row], index: usize) -> usize {
+    let mut level = rows[index].level;
+    let mut tables = 0;
+    for row in rows[..index].iter().rev() {
+        if row.level < level {
+            level = row.level;
+            tables += usize::from(row.tag == 71);
+        }
+    }
+    tables
+}
+
+/// So many tables around a record are several.
+const SEVERAL: usize = 3;
