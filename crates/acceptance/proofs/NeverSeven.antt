@@ -17,7 +17,7 @@ use Rattle.records.specs.declared.fault.Fault.the-variants as F
 use Rattle.records.specs.declared.fault.Refusal.{Refusal}
 use Rattle.records.specs.declared.fault.Answer.{Answer}
 use Rattle.records.specs.declared.fault.Answer.the-variants as A
-use Rattle.records.specs.Stopping.{AtFront, cut, long-cut, small, past, reserved, deep}
+use Rattle.records.specs.Stopping.{AtFront, cut, long-cut, small, past, long-past, reserved, deep}
 use Rattle.records.proofs.ReadingLaws.{at-front}
 use Rattle.paragraph.specs.View.{view}
 use Rattle.paragraph.specs.declared.finding.Which.{Which}
@@ -32,13 +32,14 @@ use Rattle.acceptance.proofs.SectionReader.{room-enough}
 
 -- ---- the numbers of reading are 1 to 6
 
-early : (s : List ℕ) (f : Refusal) → AtFront s f → numberOf (f .fault) ≤ 6
-early s f (cut h) = omega arith
-early s f (long-cut z h) = omega arith
-early s f (small k h) = omega arith
-early s f (past lead n h) = omega arith
-early s f (reserved h) = omega arith
-early s f (deep cap h) = omega arith
+early : (cap : ℕ) (s : List ℕ) (f : Refusal) → AtFront cap s f → numberOf (f .fault) ≤ 6
+early cap s f (cut h) = omega arith
+early cap s f (long-cut z h) = omega arith
+early cap s f (small z k h) = omega arith
+early cap s f (past z h) = omega arith
+early cap s f (long-past z h) = omega arith
+early cap s f (reserved h) = omega arith
+early cap s f (deep h) = omega arith
 
 abbrev EarlyStop : Option Refusal → Type 0
 EarlyStop none = Unit {0}
@@ -51,7 +52,7 @@ early-stop cap (suc k) (x ∷ s) = early-stop cap k s
 early-stop cap zero (x ∷ s) = by (standsAt cap (x ∷ s)) refl (λ c k. early-stop c k s)
   where
     by : (a : Stands) → standsAt cap (x ∷ s) ≡ a → ((c k : ℕ) → EarlyStop (readFrom c k s .stop)) → EarlyStop (readFrom cap 0 (x ∷ s) .stop)
-    by (fault f) e rest = rw (e, readFrom) (early (x ∷ s) f (at-front cap (x ∷ s) f e))
+    by (fault f) e rest = rw (e, readFrom) (early cap (x ∷ s) f (at-front cap (x ∷ s) f e))
     by (whole r) e rest = rw (e, readFrom) (rest (r .level + 1) (size r - 1))
 
 -- ---- the numbers of the section's rules are 8 to 15

@@ -123,7 +123,7 @@ childIn at (r ∷ rs) tag nth = foundIn (suc (r .level)) tag nth (at + size r) r
 abbrev pub unitPlace : Offset → Position → Offset
 unitPlace text p = offset (min 18446744073709551615 (text .0 + 2 * p .0))
 
--- the place of the entry that begins at an offset of the body whose first byte stands at `body`
+-- the place of the entry that begins at an offset of the body whose first byte stands at `body`; a number has 64 bits
 abbrev pub entryPlace : Offset → Offset → Offset
 entryPlace body from = offset (min 18446744073709551615 (body .0 + from .0))
 

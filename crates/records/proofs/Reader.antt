@@ -14,7 +14,7 @@ use Rattle.numbers.specs.Little.{Bytes}
 use Rattle.records.specs.Records.{Rec, limit, encode, Encodes}
 use Rattle.records.specs.Answers.{numberOf, refusal, further, refusedAt}
 use Rattle.records.specs.Reading.{Read, readFrom, readAll}
-use Rattle.records.specs.Stopping.{AtFront, cut, long-cut, small, past, reserved, deep, Refuses, too-long, wrong, full}
+use Rattle.records.specs.Stopping.{AtFront, cut, long-cut, small, past, long-past, reserved, deep, capBehind, Refuses, too-long, wrong, full}
 use Rattle.records.specs.Table.{roomFor, stopped, answerOf, readAnswer}
 use Rattle.records.specs.declared.fault.Fault.the-variants as F
 use Rattle.records.specs.declared.fault.Refusal.{Refusal}
@@ -67,7 +67,7 @@ module _ (s : List ℕ) (room : ℕ) (bs : Bytes s) where
   refuses-stop (some h) e f g =
       let k = reads 0 s bs in
       let same : further (length (encode (readAll s .recs))) h ≡ f = cc in
-      subst (Refuses s room) same (wrong (readAll s .recs) (k .rest) h (k .lawful) (k .stream) (subst (Left (k .rest)) e (k .left)))
+      subst (Refuses s room) same (wrong (readAll s .recs) (k .rest) h (k .lawful) (k .stream) (subst (Left (capBehind 0 (readAll s .recs)) (k .rest)) e (k .left)))
 
   refuses-limit : (b : Bool) → ltb limit (length s) ≡ b → (f : Refusal) → cond b (refusedAt F.StreamTooLong 0) (answerOf room (readAll s)) ≡ A.Refused f → Refuses s room f
   unfolding answerOf
@@ -80,16 +80,17 @@ module _ (s : List ℕ) (room : ℕ) (bs : Bytes s) where
 
 -- 2 is at the end of the stream, whichever part of the header is cut
 module _ (s : List ℕ) (room : ℕ) where
-  cut-front : (rs : List Rec) (rest : List ℕ) (f : Refusal) → encode rs ++ rest ≡ s → AtFront rest f → numberOf (f .fault) ≡ 2
+  cut-front : (rs : List Rec) (cap : ℕ) (rest : List ℕ) (f : Refusal) → encode rs ++ rest ≡ s → AtFront cap rest f → numberOf (f .fault) ≡ 2
       → length (encode rs) + f .place .0 ≡ length s
-  cut-front rs rest f e (cut h) n = sym (length-append (encode rs) rest) ∙ ap length e
-  cut-front rs rest f e (long-cut z h) n = sym (length-append (encode rs) rest) ∙ ap length e
-  cut-front rs rest f e (small k h) n = absurd (omega arith)
-  cut-front rs rest f e (past lead m h) n = absurd (omega arith)
-  cut-front rs rest f e (reserved h) n = absurd (omega arith)
-  cut-front rs rest f e (deep cap h) n = absurd (omega arith)
+  cut-front rs cap rest f e (cut h) n = sym (length-append (encode rs) rest) ∙ ap length e
+  cut-front rs cap rest f e (long-cut z h) n = sym (length-append (encode rs) rest) ∙ ap length e
+  cut-front rs cap rest f e (small z k h) n = absurd (omega arith)
+  cut-front rs cap rest f e (past z h) n = absurd (omega arith)
+  cut-front rs cap rest f e (long-past z h) n = absurd (omega arith)
+  cut-front rs cap rest f e (reserved h) n = absurd (omega arith)
+  cut-front rs cap rest f e (deep h) n = absurd (omega arith)
 
   pub cut-at-the-end : (f : Refusal) → Refuses s room f → numberOf (f .fault) ≡ 2 → f .place .0 ≡ length s
   cut-at-the-end f (too-long h) n = absurd (omega arith)
-  cut-at-the-end f (wrong rs rest g l e a) n = cut-front rs rest g e a n
+  cut-at-the-end f (wrong rs rest g l e a) n = cut-front rs (capBehind 0 rs) rest g e a n
   cut-at-the-end f (full rs e h) n = absurd (omega arith)

@@ -17,7 +17,7 @@ use Rattle.numbers.proofs.LittleLaws.{bytes-drop, little-small, length-bytesOf,
 use Rattle.records.specs.Records.{Rec, headerWord, leadOf, headerOf, encodeOne, encode, size, RecordObeys, Lawful, Encodes}
 use Rattle.records.specs.Reading.{Stands, whole, fault, guard, bodyAt, longAt, wordAt, standsAt, frontOf, offset, recordAt, aheadBy, aheadOf, Read, onto, readFrom}
 use Rattle.records.specs.Answers.{refusal, further}
-use Rattle.records.specs.Stopping.{AtFront, cut, long-cut, small, past, reserved, deep}
+use Rattle.records.specs.Stopping.{AtFront, cut, long-cut, small, past, long-past, reserved, deep, capBehind}
 use Rattle.records.specs.declared.fault.Fault.{Fault}
 use Rattle.records.specs.declared.fault.Refusal.{Refusal}
 use Rattle.records.specs.declared.header.Header.{Header}
@@ -186,6 +186,9 @@ by-cond : (P : Stands → Type 0) (b : Bool) (x y : Stands) → (T b → P x) �
 by-cond P true x y f g = f tt
 by-cond P false x y f g = g tt
 
+not-eq : (a b : ℕ) → T (not (eqb a b)) → a ≡ b → ⊥
+not-eq a b z e = T-not (eqb a b) z (subst (λ (m : ℕ). T (eqb a m)) e (eqb-refl a))
+
 take-both : (s a b : List ℕ) (m n : ℕ) → a ≡ take m s → b ≡ take n (drop m s) → a ++ b ≡ take (m + n) s
 take-both s a b m n e f = ap₂ (λ (x y : List ℕ). x ++ y) e f ∙ sym (take-add m n s)
 
@@ -261,7 +264,7 @@ module _ (cap : ℕ) (s : List ℕ) (bs : Bytes s) where
       (λ k. found-long (little 4 (drop 4 s)) refl (nltb→le _ _ t) (nltb→le _ _ l) (eqb→eq _ _ z) (nltb→le _ _ h) (nltb→le _ _ k)))))
       (λ z.
       by-guard P (ltb (length s) (4 + w / 1048576)) _ _ _ (λ _. tt)
-      (λ k. found-short (nltb→le _ _ t) (nltb→le _ _ l) (λ e. T-not (eqb (w / 1048576) 4095) z (subst (λ (m : ℕ). T (eqb (w / 1048576) m)) e (eqb-refl (w / 1048576)))) (nltb→le _ _ k))))))
+      (λ k. found-short (nltb→le _ _ t) (nltb→le _ _ l) (not-eq (w / 1048576) 4095 z) (nltb→le _ _ k))))))
 
   pub found : (r : Rec) → standsAt cap s ≡ whole r → Found cap s r
   found r e = subst (FoundIf cap s) e found-if
@@ -304,53 +307,54 @@ read-encode cap (r ∷ rs) l =
 
 -- ---- a fault at the front
 
-abbrev AtFrontIf : List ℕ → Stands → Type 0
-AtFrontIf s (fault f) = AtFront s f
-AtFrontIf s (whole r) = Unit {0}
+abbrev AtFrontIf : ℕ → List ℕ → Stands → Type 0
+AtFrontIf cap s (fault f) = AtFront cap s f
+AtFrontIf cap s (whole r) = Unit {0}
 
-at-front-if : (cap : ℕ) (s : List ℕ) → AtFrontIf s (standsAt cap s)
+at-front-if : (cap : ℕ) (s : List ℕ) → AtFrontIf cap s (standsAt cap s)
 unfolding standsAt wordAt longAt bodyAt
 at-front-if cap s =
-    let P = AtFrontIf s in
+    let P = AtFrontIf cap s in
     by-guard P (ltb (length s) 4) _ _ _ (λ h. cut (ltb→lt _ _ h))
     (λ _.
     by-guard P (ltb (little 4 s % 1024) 16) _ _ _ (λ h. reserved (ltb→lt _ _ h))
     (λ _.
-    by-guard P (ltb cap (little 4 s / 1024 % 1024)) _ _ _ (λ h. deep cap (ltb→lt _ _ h))
+    by-guard P (ltb cap (little 4 s / 1024 % 1024)) _ _ _ (λ h. deep (ltb→lt _ _ h))
     (λ _.
     by-cond P (eqb (little 4 s / 1048576) 4095) _ _
     (λ z.
     by-guard P (ltb (length s) 8) _ _ _ (λ h. long-cut (eqb→eq _ _ z) (ltb→lt _ _ h))
     (λ k.
-    by-guard P (ltb (little 4 (drop 4 s)) 4095) _ _ _ (λ h. small (nltb→le _ _ k) (ltb→lt _ _ h))
-    (λ _. by-guard P (ltb (length s) (8 + little 4 (drop 4 s))) _ _ _ (λ h. past 8 (little 4 (drop 4 s)) (ltb→lt _ _ h)) (λ _. tt))))
-    (λ _. by-guard P (ltb (length s) (4 + little 4 s / 1048576)) _ _ _ (λ h. past 4 (little 4 s / 1048576) (ltb→lt _ _ h)) (λ _. tt)))))
+    by-guard P (ltb (little 4 (drop 4 s)) 4095) _ _ _ (λ h. small (eqb→eq _ _ z) (nltb→le _ _ k) (ltb→lt _ _ h))
+    (λ _. by-guard P (ltb (length s) (8 + little 4 (drop 4 s))) _ _ _ (λ h. long-past (eqb→eq _ _ z) (ltb→lt _ _ h)) (λ _. tt))))
+    (λ z. by-guard P (ltb (length s) (4 + little 4 s / 1048576)) _ _ _ (λ h. past (not-eq (little 4 s / 1048576) 4095 z) (ltb→lt _ _ h)) (λ _. tt)))))
 
-pub at-front : (cap : ℕ) (s : List ℕ) (f : Refusal) → standsAt cap s ≡ fault f → AtFront s f
-at-front cap s f e = subst (AtFrontIf s) e (at-front-if cap s)
+pub at-front : (cap : ℕ) (s : List ℕ) (f : Refusal) → standsAt cap s ≡ fault f → AtFront cap s f
+at-front cap s f e = subst (AtFrontIf cap s) e (at-front-if cap s)
 
 -- at one of its bytes, or at its end
-pub front-inside : (s : List ℕ) (f : Refusal) → AtFront s f → f .place .0 ≤ length s
-front-inside s f (cut h) = omega arith
-front-inside s f (long-cut z h) = omega arith
-front-inside s f (small k h) = omega arith
-front-inside s f (past lead n h) = omega arith
-front-inside s f (reserved h) = omega arith
-front-inside s f (deep cap h) = omega arith
+pub front-inside : (cap : ℕ) (s : List ℕ) (f : Refusal) → AtFront cap s f → f .place .0 ≤ length s
+front-inside cap s f (cut h) = omega arith
+front-inside cap s f (long-cut z h) = omega arith
+front-inside cap s f (small z k h) = omega arith
+front-inside cap s f (past z h) = omega arith
+front-inside cap s f (long-past z h) = omega arith
+front-inside cap s f (reserved h) = omega arith
+front-inside cap s f (deep h) = omega arith
 
 -- ---- what reading comes to: n bounds the length
 
 -- what is left where reading came to its end
-abbrev pub Left : List ℕ → Option Refusal → Type 0
-Left rest none = rest ≡ []
-Left rest (some f) = AtFront rest f
+abbrev pub Left : ℕ → List ℕ → Option Refusal → Type 0
+Left cap rest none = rest ≡ []
+Left cap rest (some f) = AtFront cap rest f
 
 -- what reading a stream came to, where the first level is at most cap
 pub record Reads (cap : ℕ) (s : List ℕ) (x : Read) : Type 0 where
   pub lawful : Lawful cap (x .recs)
   pub rest : List ℕ
   pub stream : encode (x .recs) ++ rest ≡ s
-  pub left : Left rest (x .stop)
+  pub left : Left (capBehind cap (x .recs)) rest (x .stop)
 
 reads-end : (cap : ℕ) (s : List ℕ) → length s ≤ 0 → Reads cap s (readFrom cap 0 s)
 unfolding encode
@@ -361,7 +365,7 @@ reads-end cap (x ∷ s) h = absurd (omega arith)
 reads-by : (cap : ℕ) (s : List ℕ) (a : Stands) → standsAt cap s ≡ a → Bytes s → 0 < length s
     → ((r : Rec) → standsAt cap s ≡ whole r → Reads (r .level + 1) (drop (size r) s) (readFrom (r .level + 1) 0 (drop (size r) s)))
     → Reads cap s (readFrom cap 0 s)
-unfolding encode onto
+unfolding encode onto capBehind
 reads-by cap s (fault f) q bs h further = rw (read-stop cap s f h q) (record { lawful = tt; rest = s; stream = refl; left = at-front cap s f q })
 reads-by cap s (whole r) q bs h further =
     let k = found cap s bs r q in
@@ -393,7 +397,7 @@ reads cap s bs = reads-within (length s) cap s (omega arith) bs
 pub encode-read : (cap : ℕ) (s : List ℕ) → Bytes s → readFrom cap 0 s .stop ≡ none → Encodes cap s (readFrom cap 0 s .recs)
 encode-read cap s bs e =
     let k = reads cap s bs in
-    let none-left : k .rest ≡ [] = subst (Left (k .rest)) e (k .left) in
+    let none-left : k .rest ≡ [] = subst (Left (capBehind cap (readFrom cap 0 s .recs)) (k .rest)) e (k .left) in
     record { lawful = k .lawful; stream = sym (append-nil (encode (readFrom cap 0 s .recs))) ∙ ap (λ (l : List ℕ). encode (readFrom cap 0 s .recs) ++ l) (sym none-left) ∙ k .stream }
 
 -- how far behind the records a fault is
@@ -406,11 +410,11 @@ pub read-prefix : (cap : ℕ) (s : List ℕ) → Bytes s → length (encode (rea
 read-prefix cap s bs =
     let k = reads cap s bs in
     let l : length (encode (readFrom cap 0 s .recs)) + length (k .rest) ≡ length s = sym (length-append (encode (readFrom cap 0 s .recs)) (k .rest)) ∙ ap length (k .stream) in
-    omega (arith, l, by (readFrom cap 0 s .stop) (k .rest) (k .left))
+    omega (arith, l, by (capBehind cap (readFrom cap 0 s .recs)) (readFrom cap 0 s .stop) (k .rest) (k .left))
   where
-    by : (o : Option Refusal) (rest : List ℕ) → Left rest o → beyond o ≤ length rest
-    by none rest h = omega arith
-    by (some f) rest h = front-inside rest f h
+    by : (most : ℕ) (o : Option Refusal) (rest : List ℕ) → Left most rest o → beyond o ≤ length rest
+    by most none rest h = omega arith
+    by most (some f) rest h = front-inside most rest f h
 
 -- ---- a header that was read from the part behind `at`
 
@@ -447,7 +451,7 @@ module _ (s : List ℕ) (at cap : ℕ) (h : at < length s) where
     ahead-refused = rw (lt-ltb at (length s) h, refused)
 
     pub ahead-inside : at + f .place .0 ≤ length s
-    ahead-inside = omega (arith, h, length-drop at s, front-inside (drop at s) f (at-front cap (drop at s) f refused))
+    ahead-inside = omega (arith, h, length-drop at s, front-inside cap (drop at s) f (at-front cap (drop at s) f refused))
 
 pub ahead-end : (s : List ℕ) (at cap : ℕ) → length s ≤ at → N.End ≡ aheadOf cap s at
 unfolding aheadOf

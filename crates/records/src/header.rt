@@ -24,7 +24,7 @@ pub enum Front {
 }
 
 // A fault at a byte of what was given.
-fn wrong(fault: Fault, at: usize) -> Front
+fn at_byte(fault: Fault, at: usize) -> Front
     ensures { λ r. ⌜ r ≡ front.Refused (refusal fault at) ⌝ }
 {
     Front::Refused(Refusal {
@@ -38,16 +38,16 @@ pub fn first(s: &[u8], cap: u32) -> Front
     ensures { λ r. ⌜ r ≡ frontOf (standsAt cap (now (s .entry))) ⌝ }
 {
     if s.len() < 4 {
-        return wrong(Fault::HeaderCut, s.len());
+        return at_byte(Fault::HeaderCut, s.len());
     }
     let word = number32(s);
     let tag = word % 1024;
     let level = word / 1024 % 1024;
     if tag < 16 {
-        return wrong(Fault::TagOutside, 0);
+        return at_byte(Fault::TagOutside, 0);
     }
     if cap < level {
-        return wrong(Fault::LevelRule, 0);
+        return at_byte(Fault::LevelRule, 0);
     }
     let size = word / 1048576;
     if size == 4095 {
@@ -61,11 +61,11 @@ fn long(s: &[u8], tag: u32, level: u32) -> Front
     ensures { λ r. ⌜ r ≡ frontOf (longAt tag level (now (s .entry))) ⌝ }
 {
     if s.len() < 8 {
-        return wrong(Fault::HeaderCut, s.len());
+        return at_byte(Fault::HeaderCut, s.len());
     }
     let len = number32(&s[4..]);
     if len < 4095 {
-        return wrong(Fault::LongLengthTooSmall, 4);
+        return at_byte(Fault::LongLengthTooSmall, 4);
     }
     body(s, tag, level, 8, len)
 }
@@ -77,7 +77,7 @@ fn body(s: &[u8], tag: u32, level: u32, lead: usize, len: u32) -> Front
 {
     let n = len as usize;
     if s.len() < lead + n {
-        return wrong(Fault::BodyPastEnd, 0);
+        return at_byte(Fault::BodyPastEnd, 0);
     }
     Front::Record(Header {
         tag,
@@ -97,7 +97,7 @@ pub struct Record {
     pub next: Offset,
 }
 
-// What a step over the records finds.
+// What a step over the records finds; the place of a refusal is one of the stream.
 pub enum Ahead {
     Record(Record),
     Refused(Refusal),

@@ -7,3 +7,4 @@ pub mod SoundLaws
 pub mod PartLaws
 pub mod RunLaws
 pub mod ControlLaws
+pub mod FirstLaws

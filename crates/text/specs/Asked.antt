@@ -53,3 +53,8 @@ pub data SoundText : List ℕ → Type 0 where
   single : {u : ℕ} {us : List ℕ} → width (what u) ≡ 1 → (u ≡ 0 → ⊥) → (u ≡ 13 → ⊥) → SoundText us → SoundText (u ∷ us)
   -- 'An eight-unit control ends with its own code; the six between may hold anything, 13 too'
   eight : {u : ℕ} {us : List ℕ} (six : List ℕ) → width (what u) ≡ 8 → length six ≡ 6 → SoundText us → SoundText (u ∷ (six ++ (u ∷ us)))
+
+-- the beginning of a sound text: units behind which it can go on to be one
+pub record Opens (us : List ℕ) : Type 0 where
+  pub more : List ℕ
+  pub sound : SoundText (us ++ more)

@@ -105,7 +105,8 @@ fault p (suc k) (u ∷ us) = fault (p + 1) k us
 abbrev pub faultAt : List ℕ → ℕ → Option ℕ
 faultAt us p = fault p 0 (drop p us)
 
--- that of a whole text; where there is no unit, 13 is lacking
+-- that of a whole text; where there is no unit, 13 is lacking. It is the first wrong one: what stands before it is the beginning of a sound
+-- text (`right-before` in proofs/FirstLaws.antt)
 unfoldable pub textFault : List ℕ → Option ℕ
 textFault [] = some 0
 textFault (u ∷ us) = fault 0 0 (u ∷ us)

@@ -9,28 +9,28 @@ use Rattle.records.proofs.header.first.Lts as lts
 use Rattle.numbers.proofs.number32.Reads as number32-reads
 use Rattle.records.proofs.header.body.Reads as body-reads
 use Rattle.records.proofs.header.long.Reads as long-reads
-use Rattle.records.proofs.header.wrong.Reads as wrong-reads
+use Rattle.records.proofs.header.at_byte.Reads as at-byte-reads
 
-wrong-requires : tie.Need-wrong-requires
-wrong-requires c κs = search needs
+at-byte-requires : tie.Need-at-byte-requires
+at-byte-requires c κs = search needs
 
 returns : tie.Need-returns
-returns c = c .wrong .ensures ∙ first-cut _ _ (c .before .if1 .taken)
+returns c = c .at-byte .ensures ∙ first-cut _ _ (c .before .if1 .taken)
 
 number32-requires : tie.Need-number32-requires
 number32-requires c κs = search needs
 
-wrong-requires-2 : tie.Need-wrong-requires-2
-wrong-requires-2 c κs = search needs
+at-byte-requires-2 : tie.Need-at-byte-requires-2
+at-byte-requires-2 c κs = search needs
 
 returns-2 : tie.Need-returns-2
-returns-2 c = c .wrong2 .ensures ∙ first-tag _ _ _ (c .before .before .before .if1 .left) (c .before .before .number32 .ensures) (c .before .if2 .taken)
+returns-2 c = c .at-byte2 .ensures ∙ first-tag _ _ _ (c .before .before .before .if1 .left) (c .before .before .number32 .ensures) (c .before .if2 .taken)
 
-wrong-requires-3 : tie.Need-wrong-requires-3
-wrong-requires-3 c κs = search needs
+at-byte-requires-3 : tie.Need-at-byte-requires-3
+at-byte-requires-3 c κs = search needs
 
 returns-3 : tie.Need-returns-3
-returns-3 c = c .wrong3 .ensures ∙ first-level _ _ _ (c .before .before .before .before .if1 .left) (c .before .before .before .number32 .ensures) (c .before .before .if2 .left) (c .before .if3 .taken)
+returns-3 c = c .at-byte3 .ensures ∙ first-level _ _ _ (c .before .before .before .before .if1 .left) (c .before .before .before .number32 .ensures) (c .before .before .if2 .left) (c .before .if3 .taken)
 
 long-requires : tie.Need-long-requires
 long-requires c κs = search needs
@@ -52,12 +52,12 @@ pub first-spec : {M : Type 1} → statement M
 first-spec =
     tie.close
     (tie.spec
-    wrong-requires
+    at-byte-requires
     returns
     number32-requires
-    wrong-requires-2
+    at-byte-requires-2
     returns-2
-    wrong-requires-3
+    at-byte-requires-3
     returns-3
     long-requires
     returns-4
