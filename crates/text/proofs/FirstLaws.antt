@@ -14,6 +14,7 @@ use Rattle.text.specs.Asked.{what, width, SoundText, ending, single, eig
 use Rattle.text.specs.Walk.{Front, stands, broken, over, Sight, takes, frontOf, sight, front, fault, faultOr, textFault}
 use Rattle.text.specs.declared.Standing.{Standing}
 use Rattle.text.proofs.TableLaws.{width-or}
+use Rattle.text.proofs.RunLaws.{both}
 use Rattle.text.proofs.WalkLaws.{endOf, front-stands, front-left, width-pos, passed, fault-front}
 
 -- ---- a fault is not before the position where the walk stands
@@ -66,10 +67,6 @@ data Ways (k : Sight) (d : ℕ) : Type 0 where
 named : {c d : ℕ} → broken c ≡ broken d → d ≡ c
 named e = cc
 
-both : (a b : Bool) → (a && b) ≡ true → b ≡ true
-both true b e = e
-both false b e = absurd (let z : _≡_ {A = ℕ} 0 1 = cc in omega arith)
-
 module _ (k : Sight) (d : ℕ) where
   ways-end : (k .unit ≡ 0 → ⊥) → takes k ≤ k .left → k .last ≡ k .unit → endOf k ≡ broken d → Ways k d
   ways-end z w c e = by (eqb (k .left) (takes k) && not (eqb (k .unit) 13)) refl e
@@ -80,7 +77,7 @@ module _ (k : Sight) (d : ℕ) where
 
       by : (b : Bool) → (eqb (k .left) (takes k) && not (eqb (k .unit) 13)) ≡ b
           → cond b (broken (takes k)) (cond (eqb (k .unit) 13 && not (eqb (k .left) (takes k))) (broken 0) (stands (what (k .unit)))) ≡ broken d → Ways k d
-      by true q e = lacking z (eqb-false (k .unit) 13 (not-true (eqb (k .unit) 13) (both (eqb (k .left) (takes k)) (not (eqb (k .unit) 13)) q))) w c (named e)
+      by true q e = lacking z (eqb-false (k .unit) 13 (not-true (eqb (k .unit) 13) (both (eqb (k .left) (takes k)) (not (eqb (k .unit) 13)) q .1))) w c (named e)
       by false q e = last (eqb (k .unit) 13 && not (eqb (k .left) (takes k))) e
 
   ways : frontOf k ≡ broken d → Ways k d

@@ -151,7 +151,7 @@ pub record Four (us : List ℕ) (p : ℕ) : Type 0 where
   pub first : 32 ≤ getD us p 0
   pub unit : (i : ℕ) → i < 4 → 32 ≤ getD us (p + i) 0
 
-both : (a b : Bool) → (a && b) ≡ true → (a ≡ true) × (b ≡ true)
+pub both : (a b : Bool) → (a && b) ≡ true → (a ≡ true) × (b ≡ true)
 both true b e = (refl, e)
 both false b e = absurd (let z : _≡_ {A = ℕ} 0 1 = cc in omega arith)
 
