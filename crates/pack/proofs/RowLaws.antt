@@ -1,25 +1,39 @@
 -- The rows of a table: one after the other, and what an acceptance says of each. Assumes nothing.
-use Prim.Native.Nat.{ℕ, suc, _+_, _-_, _≤_, _<_, min}
+use Prim.Native.Nat.{ℕ, zero, suc, _+_, _-_, _≤_, _<_, min}
 use native.Mathlib.Omega.{arith}
 use native.Mathlib.Decide.{decLe}
 use native.Mathlib.Nat.{lt-of-not-le, add-zero}
-use mathlib.Core.Path.{_≡_, refl, sym, _∙_, subst}
+use mathlib.Core.Path.{_≡_, refl, sym, ap, _∙_, subst}
 use mathlib.Core.Bool.{Bool, true, false, cond, not}
-use mathlib.Core.List.{List, [], _∷_}
-use lib.Dec.{T, ltb, nltb→le}
-use lib.ListN.{length, getD, drop}
+use mathlib.Core.List.{List, [], _∷_, map}
+use lib.Dec.{T, ltb, eqb, nltb→le}
+use lib.ListN.{length, getD, take, drop, length-drop}
 use lib.Seq.{getD-drop, drop-drop}
 use borrow.Author.Tests.{lt-ltb, le-ltb}
 use Rattle.records.specs.declared.fault.Fault.{Fault}
 use Rattle.records.specs.declared.fault.Fault.the-variants as F
 use Rattle.records.specs.Records.{limit, leadOf, size}
+use Rattle.records.specs.Table.{levelOf, Lists, roomIn}
 use Rattle.records.proofs.HeaderLaws.{length-part}
-use Rattle.pack.specs.Rows.{Row, rowOf, rows, pointed}
+use Rattle.pack.specs.Rows.{Row, rowOf, rows, pointed, records}
 use Rattle.pack.specs.Packing.{refusedAt, verdict, rowByRow, closing, SoundRow}
 use Rattle.pack.specs.declared.judge.Verdict.{Verdict}
 use Rattle.pack.specs.declared.judge.Verdict.the-variants as Ver
 use Rattle.pack.specs.declared.judge.Packed.{Packed}
 use Rattle.pack.specs.declared.judge.Packed.the-variants as P
+
+-- ---- as many rows as each list has entries
+
+pub record Listed (n : ℕ) (k : Lists) : Type 0 where
+  pub in-tags : n ≤ length (k .tags)
+  pub in-levels : n ≤ length (k .levels)
+  pub in-places : n ≤ length (k .places)
+  pub in-lengths : n ≤ length (k .lengths)
+  pub in-parents : n ≤ length (k .parents)
+
+pub listed-in : (n : ℕ) (k : Lists) → n ≤ roomIn k → Listed n k
+listed-in n k h =
+    record { in-tags = omega arith; in-levels = omega arith; in-places = omega arith; in-lengths = omega arith; in-parents = omega arith }
 
 -- ---- the rows from an index on
 
@@ -35,20 +49,40 @@ module _ (n : ℕ) (t l p q : List ℕ) where
   unfolding rows
   from-end i h = let e : n - i ≡ 0 = omega arith in rw e
 
+pub length-rows : (n : ℕ) (t l p q : List ℕ) → length (rows n t l p q) ≡ n
+unfolding rows
+length-rows zero t l p q = refl
+length-rows (suc n) t l p q = ap suc (length-rows n (drop 1 t) (drop 1 l) (drop 1 p) (drop 1 q))
+
+pub one-more : (n : ℕ) (t : List ℕ) → suc n ≤ length t → getD t 0 0 ∷ take n (drop 1 t) ≡ take (suc n) t
+one-more n [] h = absurd (omega arith)
+one-more n (x ∷ t) h = refl
+
+-- the levels of the records that rows point to
+pub packed-levels : (bytes : List ℕ) (n : ℕ) (t l p q : List ℕ) → n ≤ length l → map levelOf (records bytes (rows n t l p q)) ≡ take n l
+unfolding rows
+packed-levels bytes zero t l p q h = refl
+packed-levels bytes (suc n) t l p q h =
+    ap (λ (x : List ℕ). getD l 0 0 ∷ x) (packed-levels bytes n (drop 1 t) (drop 1 l) (drop 1 p) (drop 1 q) (omega (arith, length-drop 1 l))) ∙ one-more n l h
+
 -- ---- one row
+
+pub not-back : (b c : Bool) → not b ≡ c → b ≡ not c
+not-back true c e = ap not e
+not-back false c e = ap not e
 
 by-cond : (A : Verdict → Type 0) (b : Bool) (x y : Verdict) → (T b → A x) → (T (not b) → A y) → A (cond b x y)
 by-cond A true x y f g = f tt
 by-cond A false x y f g = g tt
 
-abbrev SoundIf : ℕ → ℕ → Row → Verdict → Type 0
-SoundIf cap lent r Ver.Sound = SoundRow cap lent r
-SoundIf cap lent r (Ver.Faulty f) = Unit {0}
+abbrev SoundIf : ℕ → Bool → ℕ → Row → Verdict → Type 0
+SoundIf cap right lent r Ver.Sound = SoundRow cap lent r × T right
+SoundIf cap right lent r (Ver.Faulty f) = Unit {0}
 
-sound-if : (cap lent : ℕ) (r : Row) → SoundIf cap lent r (verdict cap lent r)
+sound-if : (cap : ℕ) (right : Bool) (lent : ℕ) (r : Row) → SoundIf cap right lent r (verdict cap right lent r)
 unfolding verdict
-sound-if cap lent r =
-    let A = SoundIf cap lent r in
+sound-if cap right lent r =
+    let A = SoundIf cap right lent r in
     by-cond A (ltb (r .tag) 16) _ _ (λ _. tt)
     (λ a.
     by-cond A (ltb 1023 (r .tag)) _ _ (λ _. tt)
@@ -57,45 +91,53 @@ sound-if cap lent r =
     (λ c.
     by-cond A (ltb 1023 (r .level)) _ _ (λ _. tt)
     (λ d.
+    by-cond A right _ _
+    (λ g.
     by-cond A (ltb lent (r .place + r .len)) _ _ (λ _. tt)
-    (λ e.
-    record {
-      tag-low = nltb→le _ _ a;
-      tag-high = nltb→le _ _ b;
-      level-cap = nltb→le _ _ c;
-      level-high = nltb→le _ _ d;
-      inside = nltb→le _ _ e;
-    })))))
+    (λ e. (
+      record {
+        tag-low = nltb→le _ _ a;
+        tag-high = nltb→le _ _ b;
+        level-cap = nltb→le _ _ c;
+        level-high = nltb→le _ _ d;
+        inside = nltb→le _ _ e;
+      },
+      g,
+    )))
+    (λ _. tt)))))
 
-pub sound : (cap lent : ℕ) (r : Row) → verdict cap lent r ≡ Ver.Sound → SoundRow cap lent r
-sound cap lent r e = subst (SoundIf cap lent r) e (sound-if cap lent r)
+pub sound : (cap : ℕ) (right : Bool) (lent : ℕ) (r : Row) → verdict cap right lent r ≡ Ver.Sound → SoundRow cap lent r × T right
+sound cap right lent r e = subst (SoundIf cap right lent r) e (sound-if cap right lent r)
 
-pub sound-verdict : (cap lent : ℕ) (r : Row) → SoundRow cap lent r → verdict cap lent r ≡ Ver.Sound
+pub sound-verdict : (cap : ℕ) (right : Bool) (lent : ℕ) (r : Row) → SoundRow cap lent r → right ≡ true → verdict cap right lent r ≡ Ver.Sound
 unfolding verdict
-sound-verdict cap lent r s =
+sound-verdict cap right lent r s g =
     simp (
       le-ltb (r .tag) 16 (s .tag-low),
       le-ltb 1023 (r .tag) (s .tag-high),
       le-ltb cap (r .level) (s .level-cap),
       le-ltb 1023 (r .level) (s .level-high),
+      g,
       le-ltb lent (r .place + r .len) (s .inside),
     )
 
 -- ---- row by row
 
-pub row-next : (lent i cap : ℕ) (r : Row) (rs : List Row) (after : Packed) → verdict cap lent r ≡ Ver.Sound
-    → rowByRow lent i cap (r ∷ rs) after ≡ rowByRow lent (i + 1) (r .level + 1) rs after
-unfolding rowByRow
-row-next lent i cap r rs after e = rw (e, rowByRow)
+module _ (lent i cap : ℕ) where
+  module _ (r : Row) (rs : List Row) (given has : List ℕ) (after : Packed) where
+    pub row-next : verdict cap (eqb (getD given 0 0) (getD has 0 0)) lent r ≡ Ver.Sound
+        → rowByRow lent i cap (r ∷ rs) given has after ≡ rowByRow lent (i + 1) (r .level + 1) rs (drop 1 given) (drop 1 has) after
+    unfolding rowByRow
+    row-next e = rw (e, rowByRow)
 
-pub row-stop : (lent i cap : ℕ) (r : Row) (rs : List Row) (after : Packed) (f : Fault) → verdict cap lent r ≡ Ver.Faulty f
-    → rowByRow lent i cap (r ∷ rs) after ≡ refusedAt f i
-unfolding rowByRow
-row-stop lent i cap r rs after f e = rw (e, rowByRow)
+    pub row-stop : (f : Fault) → verdict cap (eqb (getD given 0 0) (getD has 0 0)) lent r ≡ Ver.Faulty f
+        → rowByRow lent i cap (r ∷ rs) given has after ≡ refusedAt f i
+    unfolding rowByRow
+    row-stop f e = rw (e, rowByRow)
 
-pub row-end : (lent i cap : ℕ) (after : Packed) → rowByRow lent i cap [] after ≡ after
-unfolding rowByRow
-row-end lent i cap after = refl
+  pub row-end : (given has : List ℕ) (after : Packed) → rowByRow lent i cap [] given has after ≡ after
+  unfolding rowByRow
+  row-end given has after = refl
 
 -- ---- 1 and 26
 

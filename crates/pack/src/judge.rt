@@ -4,11 +4,12 @@ use numbers::wide;
 use records::Fault;
 use records::Offset;
 use records::bits;
+use records::right_parents;
 ghost use mathlib.Core.Path.{_≡_};
 ghost use Prim.Native.Nat.{_+_, _≤_, _<_, min};
 ghost use Rattle.records.specs.Answers.{placeBits, hostForm};
 ghost use Rattle.records.specs.Records.{leadOf};
-ghost use Rattle.records.specs.Table.{shortest};
+ghost use Rattle.records.specs.Table.{lists, roomIn};
 ghost use Rattle.pack.specs.Rows.{rows, rowOf};
 ghost use Rattle.pack.specs.Packing.{number, place, verdict, closing, rowsAnswer, packAnswer};
 
@@ -39,11 +40,18 @@ pub enum Verdict {
     Faulty(Fault),
 }
 
-// Widens to an index or a length.
-// A row whose level may be at most cap, over `lent` bytes: 5, 6, 4.
-fn row(tag: u32, level: u32, place: Offset, len: usize, cap: u32, lent: usize) -> Verdict
+// A row whose level may be at most cap, with the right parent or not, over `lent` bytes: 5, 6, 28, 4.
+fn row(
+    tag: u32,
+    level: u32,
+    place: Offset,
+    len: usize,
+    cap: u32,
+    right: bool,
+    lent: usize,
+) -> Verdict
     requires { ⌜ (place .0 < 4294967296) × (len < 4294967296) ⌝ }
-    ensures { λ r. ⌜ r ≡ verdict cap lent (rowOf tag level (place .0) len) ⌝ }
+    ensures { λ r. ⌜ r ≡ verdict cap right lent (rowOf tag level (place .0) len) ⌝ }
 {
     if tag < 16 {
         return Verdict::Faulty(Fault::TagOutside);
@@ -56,6 +64,9 @@ fn row(tag: u32, level: u32, place: Offset, len: usize, cap: u32, lent: usize) -
     }
     if 1023 < level {
         return Verdict::Faulty(Fault::LevelRule);
+    }
+    if !right {
+        return Verdict::Faulty(Fault::ParentWrong);
     }
     if lent < place.0 + len {
         return Verdict::Faulty(Fault::BodyPastEnd);
@@ -91,19 +102,21 @@ fn close(total: usize, room: usize) -> Packed
     Packed::Length(total)
 }
 
-// The rows of lists that are long enough: 5, 6, 4 of each, then 1 and 26.
+// The rows of lists that are long enough: 5, 6, 28, 4 of each, then 1 and 26.
 fn judge_rows(
     count: usize,
     tags: &[u32],
     levels: &[u32],
     places: &[u32],
     lengths: &[u32],
+    parents: &[u32],
     bytes: &[u8],
     room: usize,
 ) -> Packed
-    requires { ⌜ count ≤ shortest (now tags) (now levels) (now places) (now lengths) ⌝ }
-    ensures { λ r. ⌜ r ≡ rowsAnswer (now (bytes .entry)) room (rows count (now (tags .entry)) (now (levels .entry)) (now (places .entry)) (now (lengths .entry))) ⌝ }
+    requires { ⌜ count ≤ roomIn (lists (now tags) (now levels) (now places) (now lengths) (now parents)) ⌝ }
+    ensures { λ r. ⌜ r ≡ rowsAnswer (now (bytes .entry)) room (rows count (now (tags .entry)) (now (levels .entry)) (now (places .entry)) (now (lengths .entry))) (now (parents .entry)) ⌝ }
 {
+    let right = right_parents(count, levels, parents);
     let mut i: usize = 0;
     let mut cap: u32 = 0;
     let mut total: usize = 0;
@@ -111,7 +124,7 @@ fn judge_rows(
         let level = levels[i];
         let len = wide(lengths[i]);
         let place = Offset(wide(places[i]));
-        match row(tags[i], level, place, len, cap, bytes.len()) {
+        match row(tags[i], level, place, len, cap, i < right, bytes.len()) {
             Verdict::Sound => {
                 cap = level + 1;
                 total = grown(total, len);
@@ -135,16 +148,17 @@ pub fn judge(
     levels: &[u32],
     places: &[u32],
     lengths: &[u32],
+    parents: &[u32],
     bytes: &[u8],
     room: usize,
 ) -> Packed
-    ensures { λ r. ⌜ r ≡ packAnswer count (now (tags .entry)) (now (levels .entry)) (now (places .entry)) (now (lengths .entry)) (now (bytes .entry)) room ⌝ }
+    ensures { λ r. ⌜ r ≡ packAnswer count (lists (now (tags .entry)) (now (levels .entry)) (now (places .entry)) (now (lengths .entry)) (now (parents .entry))) (now (bytes .entry)) room ⌝ }
 {
-    if records::room(tags, levels, places, lengths) < count {
+    if records::room(tags, levels, places, lengths, parents) < count {
         return Packed::Refused {
             fault: Fault::ListTooShort,
             index: Index(0),
         };
     }
-    judge_rows(count, tags, levels, places, lengths, bytes, room)
+    judge_rows(count, tags, levels, places, lengths, parents, bytes, room)
 }
