@@ -301,7 +301,7 @@ pub fn case(random: &mut Random) -> Case {
         stream(random)
     } else {
         let mut drafts: Vec<Draft> = parts(random).concat();
-        if random.once_in(16) {
+        if random.once_in(10) {
             drafts.extend(trees::drafts(random));
         }
         let mut bytes = write_stream(&drafts);

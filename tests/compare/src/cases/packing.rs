@@ -57,7 +57,7 @@ fn levels(random: &mut Random) -> Vec<u32> {
         let count = random.from_to(1020, 1030);
         return (0..count as u32).collect();
     }
-    if random.once_in(16) {
+    if random.once_in(10) {
         let count = trees::how_many(random);
         return trees::levels(random, count);
     }
@@ -361,16 +361,16 @@ pub fn long_case(random: &mut Random, which: usize) -> Case {
     }
 }
 
-/// A table of a million records whose output has all of the limit.
+/// A table of many records whose output has all of the limit.
 fn long_tree(random: &mut Random) -> Lists {
-    const COUNT: usize = LIMIT / 16;
+    const COUNT: usize = LIMIT / 64;
     let levels = trees::levels(random, COUNT);
     let parents = trees::parents(&levels);
     [
         vec![77; COUNT],
         levels,
         vec![0; COUNT],
-        vec![12; COUNT],
+        vec![60; COUNT],
         parents,
     ]
 }
@@ -378,7 +378,7 @@ fn long_tree(random: &mut Random) -> Lists {
 /// Long tables, of which the first has right parents; the parent of the last record is wrong in the others.
 pub fn long_fault(random: &mut Random, which: usize) -> Case {
     let (mut lists, bytes) = match which % 3 {
-        0 | 1 => (long_tree(random), 12),
+        0 | 1 => (long_tree(random), 60),
         // over the limit too
         _ => (alike(4097, (1 << 20) - 8), 1 << 20),
     };

@@ -241,7 +241,7 @@ pub fn stream(random: &mut Random) -> (Vec<u8>, usize) {
         let length = random.below(40);
         return (random.bytes(length), 4);
     }
-    let mut drafts = if random.once_in(16) {
+    let mut drafts = if random.once_in(10) {
         trees::drafts(random)
     } else {
         let count = how_many(random);

@@ -32,7 +32,7 @@ fn any_section(random: &mut Random, style: Style) -> (Vec<u8>, usize) {
     };
     damaged(random, &mut drafts);
     drafts.retain(|draft| draft.level < 1024);
-    if random.once_in(24) {
+    if random.once_in(16) {
         drafts.extend(trees::drafts(random));
     }
     let mut bytes = write_stream(&drafts);

@@ -30,8 +30,10 @@ fn chains(random: &mut Random, count: usize) -> Vec<u32> {
         levels.extend(from..=deepest);
         levels.extend(vec![deepest; random.below(3)]);
         let any = random.below(deepest as usize) as u32;
-        from = random.pick(&[0, 0, 1.min(deepest), any]);
-        if random.once_in(2) {
+        let by_one;
+        (from, by_one) =
+            random.pick(&[(0, false), (1, false), (any, false), (0, true), (any, true)]);
+        if by_one {
             levels.extend((from + 1..deepest).rev());
         }
     }
@@ -55,7 +57,7 @@ fn children(random: &mut Random, count: usize) -> Vec<u32> {
 
 /// Nearly all at level 0.
 fn flat(random: &mut Random, count: usize) -> Vec<u32> {
-    let often = random.pick(&[50, 3000]);
+    let often = random.pick(&[50, 5000, 5000]);
     let level = |index| u32::from(index > 0 && random.once_in(often));
     (0..count).map(level).collect()
 }
@@ -78,10 +80,10 @@ fn walk(random: &mut Random, count: usize) -> Vec<u32> {
 
 /// The lawful levels of about so many records, in one of the shapes.
 pub fn levels(random: &mut Random, count: usize) -> Vec<u32> {
-    match random.below(6) {
-        0..=2 => chains(random, count),
-        3 => children(random, count),
-        4 => flat(random, count),
+    match random.below(8) {
+        0..=4 => chains(random, count),
+        5 => children(random, count),
+        6 => flat(random, count),
         _ => walk(random, count),
     }
 }
