@@ -175,7 +175,7 @@ fn judge_read(
     Outcome::of(stream, asked, differences)
 }
 
-/// Reading what the subject packed gives the tags, levels, lengths and parents back; the places are those of the stream.
+/// Reading what the subject packed gives tags, levels, lengths and parents back; the places are those of the stream.
 fn reads_back(
     stream: &[u8],
     count: usize,

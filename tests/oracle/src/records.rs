@@ -94,8 +94,8 @@ impl LastAt {
     }
 }
 
-/// The record whose header stands at `at`, after a record of level `before`; its parent is left open. A header cut short
-/// is refused at the end of the stream, where its next byte is lacking.
+/// The record whose header stands at `at`, after a record of level `before`; its parent is left open. A header cut
+/// short is refused at the end of the stream, where its next byte is lacking.
 #[inline]
 fn read_record(stream: &[u8], at: usize, before: Option<u32>) -> Result<Row, Refusal> {
     demand(stream.len() - at >= 4, 2, stream.len())?;

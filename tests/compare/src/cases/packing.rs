@@ -133,8 +133,8 @@ fn wrong_body(random: &mut Random, bytes: usize) -> (u32, u32) {
     }
 }
 
-/// A wrong parent for the record, where these are the right ones: the record before, the parent's parent, its own index,
-/// the first record, one beside the right one, the record before on its level, or no record at all.
+/// A wrong parent for the record, where these are the right ones: the record before, the parent's parent, its own
+/// index, the first record, one beside the right one, the record before on its level, or no record at all.
 fn wrong_parent(random: &mut Random, levels: &[u32], right: &[u32], index: usize) -> u32 {
     let (own, parent) = (index as u32, right[index]);
     let (count, more) = (levels.len() as u32, random.from_to(1, 9) as u32);
@@ -172,6 +172,7 @@ fn break_part(random: &mut Random, lists: &mut Lists, part: Part, index: usize, 
             let before = index.checked_sub(1).map(|before| lists[LEVELS][before]);
             if before.is_none_or(|before| before < 1023) {
                 lists[LEVELS][index] = wrong_level(random, before);
+                lists[PARENTS] = trees::parents(&lists[LEVELS]);
             }
         }
         Part::Body => (lists[PLACES][index], lists[LENGTHS][index]) = wrong_body(random, bytes),
@@ -209,14 +210,7 @@ fn break_entries(random: &mut Random, lists: &mut Lists, bytes: usize, times: us
         faults.push((part, random.pick(&[one, one, any])));
     }
     faults.sort();
-    let (parents, others): (Vec<_>, Vec<_>) = faults
-        .into_iter()
-        .partition(|(part, _)| *part == Part::Parent);
-    for (part, index) in others {
-        break_part(random, lists, part, index, bytes);
-    }
-    lists[PARENTS] = trees::parents(&lists[LEVELS]);
-    for (part, index) in parents {
+    for (part, index) in faults {
         break_part(random, lists, part, index, bytes);
     }
 }

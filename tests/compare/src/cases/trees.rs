@@ -5,8 +5,8 @@ use crate::random::Random;
 
 pub const DEEPEST: u32 = 1023;
 
-/// The parents of records with these levels, lawful or not, as document 01 says it: the nearest earlier record of smaller
-/// level, and the record's own index where there is none.
+/// The parents of records with these levels, lawful or not, as document 01 says it: the nearest earlier record of
+/// smaller level, and the record's own index where there is none.
 pub fn parents(levels: &[u32]) -> Vec<u32> {
     let mut open: Vec<u32> = Vec::new();
     let parent = |(index, &level): (usize, &u32)| {
