@@ -59,14 +59,15 @@ fn header_length(length: u32) -> usize {
     }
 }
 
+/// The header of a record in its long form; the first four bytes are the short one.
+fn long_header(tag: u32, level: u32, length: u32) -> [u8; 8] {
+    let first = tag | level << 10 | length.min(LONG) << 20;
+    (u64::from(first) | u64::from(length) << 32).to_le_bytes()
+}
+
 /// The header of a record in the form that its length asks for.
 pub fn header_of(tag: u32, level: u32, length: u32) -> Vec<u8> {
-    let size = length.min(LONG);
-    let mut header = (tag | level << 10 | size << 20).to_le_bytes().to_vec();
-    if size == LONG {
-        header.extend_from_slice(&length.to_le_bytes());
-    }
-    header
+    long_header(tag, level, length)[..header_length(length)].to_vec()
 }
 
 /// The level rule: the first level is 0, each later one at most one above the record before it.
@@ -199,10 +200,10 @@ pub fn pack(
     demand(total <= out.len(), 26, 0)?;
     let mut at = 0;
     for index in 0..count {
-        let header = header_of(tags[index], levels[index], lengths[index]);
-        let place = places[index] as usize;
-        let body = &bytes[place..place + lengths[index] as usize];
-        for part in [&header, body] {
+        let (place, length) = (places[index] as usize, lengths[index]);
+        let header = long_header(tags[index], levels[index], length);
+        let body = &bytes[place..place + length as usize];
+        for part in [&header[..header_length(length)], body] {
             out[at..at + part.len()].copy_from_slice(part);
             at += part.len();
         }
