@@ -158,7 +158,9 @@ fn main() -> ExitCode {
     };
     println!("medians of {ROUNDS} rounds after one; in each round every call runs once, in turn");
     println!("lists, sheets and copies are allocated once, written over in each round and not cleared between");
-    println!("the oracle makes its own vectors in each call");
+    println!(
+        "the oracle makes its own vectors in each call, and a read then writes the lent lists"
+    );
     match asked {
         Asked::All => bench_all(),
         Asked::Hostile(length) => bench_hostile(length),

@@ -3,7 +3,7 @@
 use crate::native::Native;
 use crate::shape;
 use compare::lend::{Given, Room};
-use compare::subject::{answer_of_rows, rows_of, write_rows, Kind, Oracle, Subject};
+use compare::subject::{write_rows, Kind, Oracle, Subject};
 use oracle::LISTS;
 
 /// A call that can be made again and again.
@@ -59,15 +59,13 @@ pub fn pack(stream: &[u8]) -> Pair<'_> {
 }
 
 fn read_of(kind: Kind, stream: &[u8]) -> Pair<'_> {
-    let mut lists = lists_for(stream);
-    let room = lists[0].len();
-    [
+    both(|subject| {
+        let mut lists = lists_for(stream);
         Box::new(move || {
             let rooms = lists.each_mut().map(|list| Room::of(list));
-            Native.read(kind, Given::of(stream), rooms)
-        }),
-        Box::new(move || answer_of_rows(&rows_of(kind, stream, room))),
-    ]
+            subject.read(kind, Given::of(stream), rooms)
+        })
+    })
 }
 
 pub fn read(stream: &[u8]) -> Pair<'_> {
