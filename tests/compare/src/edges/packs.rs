@@ -132,6 +132,7 @@ pub struct Named {
     later: Faults,
     /// No entry of any other record is wrong, and one of its own.
     only: bool,
+    /// Where every body is inside the bytes: the length that pack would write is over the limit, or else the buffer.
     over: bool,
     cramped: bool,
 }
@@ -145,6 +146,8 @@ impl Named {
         let (levels, right) = (table.lists[LEVELS], &table.right);
         let level = *levels.get(index)?;
         let mut before = (0..index).rev();
+        let inside = (0..levels.len()).all(|index| !has(&table.faults(index), 4));
+        let total = table.total();
         let later = (index + 1..levels.len()).map(|later| table.faults(later));
         Some(Named {
             index,
@@ -159,8 +162,8 @@ impl Named {
                 std::array::from_fn(|nth| all[nth] || one[nth])
             }),
             only: table.wrong() == 1,
-            over: table.total() > LIMIT as u64,
-            cramped: table.total() > *out as u64,
+            over: inside && total > LIMIT as u64,
+            cramped: inside && (*out as u64..LIMIT as u64).contains(&(total - 1)),
         })
     }
 }
@@ -250,7 +253,7 @@ fn order() -> Vec<Edge<Named>> {
             it.index > 0 && !has(&it.faults, 28)
         }),
         Edge::new("28 before 1", 28, |it: &Named| it.over),
-        Edge::new("28 before 26", 28, |it: &Named| !it.over && it.cramped),
+        Edge::new("28 before 26", 28, |it: &Named| it.cramped),
     ]
 }
 
