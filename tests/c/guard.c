@@ -1,12 +1,12 @@
-/* guard.c: check, field text, fill and the section read of hwp.h, called as the spool host calls them, with every buffer
- * and list against pages that trap. The other reads and pack are in reads.c.
+/* guard.c: check, field text, fill and the section read of hwp.h, called as the spool host calls them, with every
+ * buffer and list against pages that trap. The other reads and pack are in reads.c.
  *
  *   guard SAMPLES    SAMPLES is the folder of the samples with its expected.txt
  *
  * Document 01's pairs about fills, each number of check, field text and fill at its edge, the wrong byte that 2, 3, 12
  * and 13 name in all four, and every sample. Each call is made twice, with the buffers before the trapping page and
- * behind it; its answer, every byte of the sheet buffer and, where the section read is refused, every entry of its lists
- * are compared.
+ * behind it; its answer, every byte of the sheet buffer and, where the section read is refused, every entry of its
+ * lists are compared.
  */
 #define _GNU_SOURCE
 #define PROGRAM "guard"

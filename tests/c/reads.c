@@ -94,12 +94,11 @@ static void packs_back(const char *name, const struct stream *s, const struct ro
     drop_table(t);
 }
 
-/* A sound stream by one read, with all that belongs to it. */
+/* A sound stream by one read, with lists of every length that matters. */
 static void sound_is(const char *name, read_call *read, const struct stream *s, const struct row *rows, size_t count)
 {
     read_evenly(name, read, s, count, told(0, count), rows, count);
     rooms_are(name, read, s, rows, count);
-    packs_back(name, s, rows, count);
 }
 
 /* ---- the samples ---- */
@@ -149,6 +148,7 @@ static void sample_is(const char *folder, const struct line *line)
             sound_is(line->name, read, &s, rows, count);
         }
         sound_is(line->name, hwp_read, &s, rows, count);
+        packs_back(line->name, &s, rows, count);
         free(rows);
     }
     free(s.bytes);
@@ -204,6 +204,7 @@ static void parents_are(const char *name, const uint32_t *levels, const uint32_t
     }
     sound_is(name, hwp_read, &s, rows, count);
     sound_is(name, hwp_read_section, &s, rows, count);
+    packs_back(name, &s, rows, count);
     free(rows);
     free(s.bytes);
 }
