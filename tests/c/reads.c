@@ -1,6 +1,7 @@
 /* reads.c: the three reads and pack of hwp.h, with every list and buffer against pages that trap.
  *
- *   reads SAMPLES    SAMPLES is the folder of the samples with its expected.txt
+ *   reads SAMPLES         SAMPLES is the folder of the samples with its expected.txt
+ *   reads SAMPLES long    also pack's index where it has more than 28 bits, which takes seconds
  *
  * Each sample by the read of its kind and by read of records only: the answer is the one in expected.txt, the five
  * lists hold what the listing says and the parents that the levels ask for. Each list in turn is the shortest and the
@@ -367,10 +368,69 @@ static void pack_limits(void)
     free(bytes.bytes);
 }
 
+/* ---- indexes of more than 28 bits ---- */
+
+#define LARGEST 268435455u      /* the largest index that an answer holds */
+#define PIECE ((size_t)1 << 24) /* bytes that are mapped again and again */
+#define PIECES (4 * ((size_t)LARGEST + 1) / PIECE + 1)
+
+/* A list of more than LARGEST entries, all the same. Its pieces are one file; a page that is written is its own. */
+static uint32_t *long_list(uint32_t entry)
+{
+    int file = memfd_create("list", 0);
+    uint8_t *at = mmap(NULL, PIECES * PIECE, PROT_NONE, MAP_PRIVATE | MAP_ANONYMOUS | MAP_NORESERVE, -1, 0);
+    int good = file >= 0 && at != MAP_FAILED && !ftruncate(file, (off_t)PIECE);
+    for (size_t i = 0; good && i < PIECE / 4; i += 1024) {
+        uint32_t page[1024];
+        for (int k = 0; k < 1024; k++)
+            page[k] = entry;
+        good = write(file, page, sizeof page) == sizeof page;
+    }
+    for (size_t i = 0; good && i < PIECES; i++)
+        good = mmap(at + i * PIECE, PIECE, PROT_READ | PROT_WRITE, MAP_PRIVATE | MAP_FIXED | MAP_NORESERVE, file, 0) !=
+               MAP_FAILED;
+    if (!good) {
+        printf(PROGRAM ": no memory for a long list\n");
+        exit(2);
+    }
+    close(file);
+    return (uint32_t *)(void *)at;
+}
+
+/* Empty records below the first: the index is given in full up to LARGEST, and any behind it as LARGEST. */
+static void large_indexes(void)
+{
+    uint32_t *part[LISTS] = {long_list(16), long_list(1), long_list(0), long_list(0), long_list(0)};
+    const size_t n = (size_t)LARGEST + 3;
+    uint8_t none[1] = {0};
+    part[LEVEL][0] = 0;
+    static const struct {
+        const char *name;
+        int part;
+        uint32_t wrong;
+        unsigned number;
+        int behind; /* how far behind LARGEST it stands */
+    } faults[] = {{"tag 15 two behind the largest index", TAG, 15, 5, 2},
+                  {"a wrong parent behind the largest index", PARENT, 1, 28, 1},
+                  {"a wrong parent at the largest index", PARENT, 1, 28, 0},
+                  {"level 3 before the largest index", LEVEL, 3, 6, -1}};
+    for (size_t i = 0; i < sizeof faults / sizeof *faults; i++) {
+        size_t index = (size_t)((long)LARGEST + faults[i].behind);
+        part[faults[i].part][index] = faults[i].wrong;
+        now = faults[i].name;
+        uint64_t found = hwp_pack(n, part[TAG], n, part[LEVEL], n, part[PLACE], n, part[LENGTH], n, part[PARENT], n,
+                                  none, 0, none, 0);
+        expect(found == told(faults[i].number, index < LARGEST ? index : LARGEST), "answer of pack");
+    }
+    for (int k = 0; k < LISTS; k++)
+        munmap(part[k], PIECES * PIECE);
+}
+
 int main(int argc, char **argv)
 {
-    if (argc != 2) {
-        fputs("usage: reads SAMPLES\n", stderr);
+    int is_long = argc == 3 && !strcmp(argv[2], "long");
+    if (argc != 2 && !is_long) {
+        fputs("usage: reads SAMPLES [long]\n", stderr);
         return 2;
     }
     catch_traps();
@@ -384,5 +444,7 @@ int main(int argc, char **argv)
     pack_order();
     pack_table();
     pack_limits();
+    if (is_long)
+        large_indexes();
     return result();
 }
