@@ -38,9 +38,9 @@ pub extern "C" fn hwp_read_section(
 ) -> u64
     ensures { λ r. ⌜ ToldTable sectionAnswer (now (stream .entry)) (lists (now (tags .entry)) (now (levels .entry)) (now (places .entry)) (now (lengths .entry)) (now (parents .entry))) r (lists (now (tags .exit)) (now (levels .exit)) (now (places .exit)) (now (lengths .exit)) (now (parents .exit))) ⌝ }
 {
-    let answer = answer_within(stream, room(tags, levels, places, lengths, parents));
-    enter(stream, answer, tags, levels, places, lengths, parents);
-    answer.host()
+    let judged = answer_within(stream, room(tags, levels, places, lengths, parents));
+    enter(stream, judged, tags, levels, places, lengths, parents);
+    judged.host()
 }
 
 // The DocInfo read.
@@ -55,7 +55,7 @@ pub extern "C" fn hwp_read_docinfo(
 ) -> u64
     ensures { λ r. ⌜ ToldTable docinfoAnswer (now (stream .entry)) (lists (now (tags .entry)) (now (levels .entry)) (now (places .entry)) (now (lengths .entry)) (now (parents .entry))) r (lists (now (tags .exit)) (now (levels .exit)) (now (places .exit)) (now (lengths .exit)) (now (parents .exit))) ⌝ }
 {
-    let answer = check_docinfo(stream, room(tags, levels, places, lengths, parents));
-    enter(stream, answer, tags, levels, places, lengths, parents);
-    answer.host()
+    let checked = check_docinfo(stream, room(tags, levels, places, lengths, parents));
+    enter(stream, checked, tags, levels, places, lengths, parents);
+    checked.host()
 }

@@ -16,7 +16,7 @@ use Rattle.records.specs.Records.{limit, leadOf, size}
 use Rattle.records.specs.Table.{levelOf, Lists, roomIn}
 use Rattle.records.proofs.HeaderLaws.{length-part}
 use Rattle.pack.specs.Rows.{Row, rowOf, rows, pointed, records}
-use Rattle.pack.specs.Packing.{refusedAt, verdict, rowByRow, closing, SoundRow}
+use Rattle.pack.specs.Packing.{refusedAt, firstOf, numbersVerdict, parentVerdict, bodyVerdict, verdict, rowByRow, closing, SoundRow}
 use Rattle.pack.specs.declared.judge.Verdict.{Verdict}
 use Rattle.pack.specs.declared.judge.Verdict.the-variants as Ver
 use Rattle.pack.specs.declared.judge.Packed.{Packed}
@@ -67,50 +67,51 @@ packed-levels bytes (suc n) t l p q h =
 
 -- ---- one row
 
-pub not-back : (b c : Bool) → not b ≡ c → b ≡ not c
-not-back true c e = ap not e
-not-back false c e = ap not e
+both-sound : (a b : Verdict) → firstOf a b ≡ Ver.Sound → (a ≡ Ver.Sound) × (b ≡ Ver.Sound)
+both-sound Ver.Sound b e = (refl, e)
+both-sound (Ver.Faulty f) b e = absurd (let z : _≡_ {A = ℕ} 0 1 = cc in omega arith)
 
 by-cond : (A : Verdict → Type 0) (b : Bool) (x y : Verdict) → (T b → A x) → (T (not b) → A y) → A (cond b x y)
 by-cond A true x y f g = f tt
 by-cond A false x y f g = g tt
 
-abbrev SoundIf : ℕ → Bool → ℕ → Row → Verdict → Type 0
-SoundIf cap right lent r Ver.Sound = SoundRow cap lent r × T right
-SoundIf cap right lent r (Ver.Faulty f) = Unit {0}
+-- what holds where a verdict is sound
+abbrev If : Type 0 → Verdict → Type 0
+If A Ver.Sound = A
+If A (Ver.Faulty f) = Unit {0}
 
-sound-if : (cap : ℕ) (right : Bool) (lent : ℕ) (r : Row) → SoundIf cap right lent r (verdict cap right lent r)
-unfolding verdict
-sound-if cap right lent r =
-    let A = SoundIf cap right lent r in
-    by-cond A (ltb (r .tag) 16) _ _ (λ _. tt)
+numbers-if : (cap tag level : ℕ) → If ((16 ≤ tag) × (tag ≤ 1023) × (level ≤ cap) × (level ≤ 1023)) (numbersVerdict cap tag level)
+unfolding numbersVerdict
+numbers-if cap tag level =
+    let A = If ((16 ≤ tag) × (tag ≤ 1023) × (level ≤ cap) × (level ≤ 1023)) in
+    by-cond A (ltb tag 16) _ _ (λ _. tt)
     (λ a.
-    by-cond A (ltb 1023 (r .tag)) _ _ (λ _. tt)
+    by-cond A (ltb 1023 tag) _ _ (λ _. tt)
     (λ b.
-    by-cond A (ltb cap (r .level)) _ _ (λ _. tt)
-    (λ c.
-    by-cond A (ltb 1023 (r .level)) _ _ (λ _. tt)
-    (λ d.
-    by-cond A right _ _
-    (λ g.
-    by-cond A (ltb lent (r .place + r .len)) _ _ (λ _. tt)
-    (λ e. (
-      record {
-        tag-low = nltb→le _ _ a;
-        tag-high = nltb→le _ _ b;
-        level-cap = nltb→le _ _ c;
-        level-high = nltb→le _ _ d;
-        inside = nltb→le _ _ e;
-      },
-      g,
-    )))
-    (λ _. tt)))))
+    by-cond A (ltb cap level) _ _ (λ _. tt)
+    (λ c. by-cond A (ltb 1023 level) _ _ (λ _. tt) (λ d. (nltb→le _ _ a, nltb→le _ _ b, nltb→le _ _ c, nltb→le _ _ d)))))
+
+parent-if : (right : Bool) → If (T right) (parentVerdict right)
+unfolding parentVerdict
+parent-if right = by-cond (If (T right)) right _ _ (λ g. g) (λ _. tt)
+
+body-if : (lent end : ℕ) → If (end ≤ lent) (bodyVerdict lent end)
+unfolding bodyVerdict
+body-if lent end = by-cond (If (end ≤ lent)) (ltb lent end) _ _ (λ _. tt) (λ e. nltb→le _ _ e)
 
 pub sound : (cap : ℕ) (right : Bool) (lent : ℕ) (r : Row) → verdict cap right lent r ≡ Ver.Sound → SoundRow cap lent r × T right
-sound cap right lent r e = subst (SoundIf cap right lent r) e (sound-if cap right lent r)
+unfolding verdict
+sound cap right lent r e =
+    let below = firstOf (parentVerdict right) (bodyVerdict lent (r .place + r .len)) in
+    let x = both-sound (numbersVerdict cap (r .tag) (r .level)) below e in
+    let y = both-sound (parentVerdict right) (bodyVerdict lent (r .place + r .len)) (x .1) in
+    let n : (16 ≤ r .tag) × (r .tag ≤ 1023) × (r .level ≤ cap) × (r .level ≤ 1023) = subst (If _) (x .0) (numbers-if cap (r .tag) (r .level)) in (
+      record { tag-low = n .0; tag-high = n .1; level-cap = n .2; level-high = n .3; inside = subst (If _) (y .1) (body-if lent (r .place + r .len)) },
+      subst (If _) (y .0) (parent-if right),
+    )
 
 pub sound-verdict : (cap : ℕ) (right : Bool) (lent : ℕ) (r : Row) → SoundRow cap lent r → right ≡ true → verdict cap right lent r ≡ Ver.Sound
-unfolding verdict
+unfolding verdict numbersVerdict parentVerdict bodyVerdict
 sound-verdict cap right lent r s g =
     simp (
       le-ltb (r .tag) 16 (s .tag-low),

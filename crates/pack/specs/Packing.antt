@@ -20,14 +20,31 @@ use Rattle.pack.specs.declared.judge.Packed.the-variants as P
 abbrev pub refusedAt : Fault → ℕ → Packed
 refusedAt f i = P.Refused f (record { 0 = i })
 
+-- the first of two faults
+abbrev pub firstOf : Verdict → Verdict → Verdict
+firstOf Ver.Sound v = v
+firstOf (Ver.Faulty f) v = Ver.Faulty f
+
+-- a tag and a level, which may be at most cap: 5, 6
+unfoldable pub numbersVerdict : ℕ → ℕ → ℕ → Verdict
+numbersVerdict cap tag level =
+    cond (ltb tag 16) (Ver.Faulty F.TagOutside)
+    (cond (ltb 1023 tag) (Ver.Faulty F.TagOutside)
+    (cond (ltb cap level) (Ver.Faulty F.LevelRule)
+    (cond (ltb 1023 level) (Ver.Faulty F.LevelRule) Ver.Sound)))
+
+-- a parent that is the right one or not: 28
+unfoldable pub parentVerdict : Bool → Verdict
+parentVerdict right = cond right Ver.Sound (Ver.Faulty F.ParentWrong)
+
+-- a body that ends so far into `lent` bytes: 4
+unfoldable pub bodyVerdict : ℕ → ℕ → Verdict
+bodyVerdict lent end = cond (ltb lent end) (Ver.Faulty F.BodyPastEnd) Ver.Sound
+
 -- a row whose level may be at most cap, with the right parent or not, over `lent` bytes: 5, 6, 28, 4
 unfoldable pub verdict : ℕ → Bool → ℕ → Row → Verdict
 verdict cap right lent r =
-    cond (ltb (r .tag) 16) (Ver.Faulty F.TagOutside)
-    (cond (ltb 1023 (r .tag)) (Ver.Faulty F.TagOutside)
-    (cond (ltb cap (r .level)) (Ver.Faulty F.LevelRule)
-    (cond (ltb 1023 (r .level)) (Ver.Faulty F.LevelRule)
-    (cond right (cond (ltb lent (r .place + r .len)) (Ver.Faulty F.BodyPastEnd) Ver.Sound) (Ver.Faulty F.ParentWrong)))))
+    firstOf (numbersVerdict cap (r .tag) (r .level)) (firstOf (parentVerdict right) (bodyVerdict lent (r .place + r .len)))
 
 -- record by record from index i on, each level at most one above the one before, each parent that is given the one that the record has;
 -- `after` where none has a fault

@@ -11,7 +11,7 @@ ghost use Rattle.records.specs.Answers.{placeBits, hostForm};
 ghost use Rattle.records.specs.Records.{leadOf};
 ghost use Rattle.records.specs.Table.{lists, roomIn};
 ghost use Rattle.pack.specs.Rows.{rows, rowOf};
-ghost use Rattle.pack.specs.Packing.{number, place, verdict, closing, rowsAnswer, packAnswer};
+ghost use Rattle.pack.specs.Packing.{number, place, firstOf, numbersVerdict, parentVerdict, bodyVerdict, verdict, closing, rowsAnswer, packAnswer};
 
 // A record's index in the table.
 pub struct Index(pub usize);
@@ -40,18 +40,19 @@ pub enum Verdict {
     Faulty(Fault),
 }
 
-// A row whose level may be at most cap, with the right parent or not, over `lent` bytes: 5, 6, 28, 4.
-fn row(
-    tag: u32,
-    level: u32,
-    place: Offset,
-    len: usize,
-    cap: u32,
-    right: bool,
-    lent: usize,
-) -> Verdict
-    requires { ⌜ (place .0 < 4294967296) × (len < 4294967296) ⌝ }
-    ensures { λ r. ⌜ r ≡ verdict cap right lent (rowOf tag level (place .0) len) ⌝ }
+// The first of two faults.
+fn first_of(a: Verdict, b: Verdict) -> Verdict
+    ensures { λ r. ⌜ r ≡ firstOf a b ⌝ }
+{
+    match a {
+        Verdict::Sound => b,
+        Verdict::Faulty(fault) => Verdict::Faulty(fault),
+    }
+}
+
+// A tag and a level, which may be at most cap: 5, 6.
+fn numbers(tag: u32, level: u32, cap: u32) -> Verdict
+    ensures { λ r. ⌜ r ≡ numbersVerdict cap tag level ⌝ }
 {
     if tag < 16 {
         return Verdict::Faulty(Fault::TagOutside);
@@ -65,13 +66,48 @@ fn row(
     if 1023 < level {
         return Verdict::Faulty(Fault::LevelRule);
     }
-    if !right {
-        return Verdict::Faulty(Fault::ParentWrong);
-    }
-    if lent < place.0 + len {
-        return Verdict::Faulty(Fault::BodyPastEnd);
-    }
     Verdict::Sound
+}
+
+// A parent that is the right one or not: 28.
+fn parent(right: bool) -> Verdict
+    ensures { λ r. ⌜ r ≡ parentVerdict right ⌝ }
+{
+    if right {
+        Verdict::Sound
+    } else {
+        Verdict::Faulty(Fault::ParentWrong)
+    }
+}
+
+// A body that ends so far into `lent` bytes: 4.
+fn body(end: usize, lent: usize) -> Verdict
+    ensures { λ r. ⌜ r ≡ bodyVerdict lent end ⌝ }
+{
+    if lent < end {
+        Verdict::Faulty(Fault::BodyPastEnd)
+    } else {
+        Verdict::Sound
+    }
+}
+
+// A row whose level may be at most cap, with the right parent or not, over `lent` bytes: 5, 6, 28, 4.
+fn row(
+    tag: u32,
+    level: u32,
+    place: Offset,
+    len: usize,
+    cap: u32,
+    right: bool,
+    lent: usize,
+) -> Verdict
+    requires { ⌜ (place .0 < 4294967296) × (len < 4294967296) ⌝ }
+    ensures { λ r. ⌜ r ≡ verdict cap right lent (rowOf tag level (place .0) len) ⌝ }
+{
+    let of_numbers = numbers(tag, level, cap);
+    let of_parent = parent(right);
+    let of_body = body(place.0 + len, lent);
+    first_of(of_numbers, first_of(of_parent, of_body))
 }
 
 // A total with one more record; what is over the limit stays one over it, so that no sum of overlapping bodies wraps.
