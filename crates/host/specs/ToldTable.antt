@@ -4,9 +4,19 @@ use Prim.Native.Nat.{ℕ}
 use mathlib.Core.Path.{_≡_, sym, ap, _∙_}
 use mathlib.Core.List.{List}
 use Rattle.records.specs.Answers.{sumOf}
-use Rattle.records.specs.Table.{Lists}
+use Rattle.records.specs.Table.{readAnswer, Lists}
 use Rattle.records.specs.Promise.{Promised, determined}
 use Rattle.records.specs.declared.fault.Answer.{Answer}
+use Rattle.section.specs.Section.{sectionAnswer}
+use Rattle.docinfo.specs.DocInfo.{docinfoAnswer}
+use Rattle.host.specs.declared.reading.Rules.{Rules}
+use Rattle.host.specs.declared.reading.Rules.the-variants as U
+
+-- what a read answers by the rules of records alone, of a section or of DocInfo
+abbrev pub answersBy : Rules → List ℕ → ℕ → Answer
+answersBy U.Records = readAnswer
+answersBy U.Section = sectionAnswer
+answersBy U.DocInfo = docinfoAnswer
 
 module _ (answers : List ℕ → ℕ → Answer) (s : List ℕ) (k : Lists) where
   pub record ToldTable (told : ℕ) (k′ : Lists) : Type 0 where
