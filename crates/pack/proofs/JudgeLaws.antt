@@ -5,7 +5,7 @@ use native.Mathlib.Nat.{zero-add, add-zero, sub-zero}
 use native.Mathlib.Numerals.{add-one}
 use mathlib.Core.Path.{_≡_, refl, sym, ap, ap₂, _∙_}
 use mathlib.Core.Bool.{Bool, true, false}
-use mathlib.Core.List.{List, [], _∷_, map}
+use mathlib.Core.List.{List, [], _∷_}
 use lib.Dec.{T, ltb, eqb, eqb→eq}
 use lib.ListN.{length, getD, take, drop, length-map}
 use lib.Seq.{getD-drop, drop-drop, drop-cons}
@@ -13,7 +13,7 @@ use borrow.Author.Tests.{lt-ltb, le-ltb, eqb-true, eqb-false}
 use Rattle.records.specs.declared.fault.Fault.{Fault}
 use Rattle.records.specs.declared.fault.Fault.the-variants as F
 use Rattle.records.specs.Records.{leadOf, encode}
-use Rattle.records.specs.Table.{levelOf, parentsFrom, Lists, roomIn}
+use Rattle.records.specs.Table.{parentsFrom, Lists, roomIn}
 use Rattle.records.specs.Climbing.{agreeing, RightParents}
 use Rattle.records.proofs.ScanLaws.{length-encode}
 use Rattle.records.proofs.ClimbLaws.{length-parentsFrom, agreeing-same, agreeing-apart}

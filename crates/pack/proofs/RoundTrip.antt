@@ -1,7 +1,7 @@
 -- Reading and packing undo each other, stated over the promises of the two calls. Assumes nothing.
 use Prim.Native.Nat.{ℕ, _≤_}
 use native.Mathlib.Omega.{arith}
-use mathlib.Core.Path.{_≡_, refl, sym, ap, ap₂, _∙_, subst}
+use mathlib.Core.Path.{_≡_, refl, sym, ap, ap₂, _∙_}
 use mathlib.Core.List.{List, [], map}
 use lib.ListN.{length, take, drop, length-map}
 use lib.Seq.{take-at}

@@ -15,7 +15,7 @@ use borrow.Author.Tests.{ltb-true, ltb-false, eq-eqb, ne-eqb}
 use Rattle.records.specs.Records.{Rec}
 use Rattle.records.specs.Parents.{parentOf, indexOr, parentIndex}
 use Rattle.records.specs.Table.{levelOf, parentsFrom}
-use Rattle.records.specs.Climbing.{Held, Behind, agreeing}
+use Rattle.records.specs.Climbing.{Held, Behind, agreeing, RightParents}
 use Rattle.records.proofs.ParentLaws.{parent-skip, parent-here, parent-short}
 
 pub length-parentsFrom : (earlier rs : List Rec) → length (parentsFrom earlier rs) ≡ length rs
@@ -187,6 +187,10 @@ pub bares-levels : (levels : List ℕ) → map levelOf (bares levels) ≡ levels
 unfolding bares bare
 bares-levels [] = refl
 bares-levels (l ∷ levels) = ap (λ (ls : List ℕ). l ∷ ls) (bares-levels levels)
+
+-- how many are right leaves no choice, for there are records with any levels
+pub right-determined : (levels parents : List ℕ) {m n : ℕ} → RightParents levels parents m → RightParents levels parents n → m ≡ n
+right-determined levels parents a b = let e = bares-levels levels in a (bares levels) e ∙ sym (b (bares levels) e)
 
 module _ (count : ℕ) (levels parents : List ℕ) where
   -- the first i entries are right; `rest` are the records that are left

@@ -8,7 +8,7 @@ use mathlib.Core.Logic.{_↔_}
 use mathlib.Core.List.{List, [], _∷_}
 use lib.ListN.{length}
 use Rattle.records.specs.Records.{Rec, Lawful}
-use Rattle.records.specs.Parents.{NoneBelow, Parent, parentOf, parentIndex}
+use Rattle.records.specs.Parents.{NoneBelow, parentOf, parentIndex}
 use Rattle.records.specs.Table.{parentsFrom, Carries, own, parent's, Carried}
 use Rattle.records.proofs.ParentLaws.{parent-skip, parent-here, parent-exactly, parent-none}
 use Rattle.records.proofs.ClimbLaws.{index-is}

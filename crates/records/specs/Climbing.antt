@@ -1,4 +1,5 @@
--- What the climb to a parent works on: lists of levels and parents (document 02, A6). What a parent is stands in Parents.
+-- What the climb to a parent works on: lists of levels and parents. Nothing of it has to be believed: what a parent is stands in Parents, what
+-- the reads enter in Table, and what pack checks in its own Packing.
 use Prim.Native.Nat.{ℕ, suc, _≤_}
 use mathlib.Core.Path.{_≡_}
 use mathlib.Core.Bool.{cond}

@@ -1,5 +1,4 @@
 -- A body within the lent bytes or past them. Assumes nothing.
-use borrow.Author.Needs.{needs}
 use borrow.Author.Tests.{lt-ltb, le-ltb}
 use Rattle.pack.specs.Packing.{bodyVerdict}
 use Rattle.pack.proofs.judge.body.Statement.{statement}

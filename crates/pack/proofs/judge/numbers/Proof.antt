@@ -1,5 +1,4 @@
 -- The ways out of a tag and a level, each by the tests that led there. Assumes nothing.
-use borrow.Author.Needs.{needs}
 use borrow.Author.Tests.{lt-ltb, le-ltb}
 use Rattle.pack.specs.Packing.{numbersVerdict}
 use Rattle.pack.proofs.judge.numbers.Statement.{statement}

@@ -1,5 +1,4 @@
 -- A right parent or a wrong one. Assumes nothing.
-use borrow.Author.Needs.{needs}
 use Rattle.pack.specs.Packing.{parentVerdict}
 use Rattle.pack.proofs.judge.parent.Statement.{statement}
 use Rattle.pack.proofs.judge.parent.Tie as tie

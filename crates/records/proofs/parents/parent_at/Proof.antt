@@ -2,7 +2,7 @@
 use borrow.Author.Needs.{needs}
 use native.Mathlib.Omega.{arith}
 use Prim.Native.Nat.{_<_}
-use mathlib.Core.Path.{_≡_, sym, ap, _∙_}
+use mathlib.Core.Path.{sym, _∙_}
 use lib.ListN.{length}
 use Rattle.records.specs.Climbing.{Behind}
 use Rattle.records.proofs.ClimbLaws.{Climbing, nothing-before, climb-start, climb-end, climb-none, climb-next}
