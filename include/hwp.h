@@ -130,7 +130,7 @@ uint64_t hwp_fill(const uint8_t *section, size_t section_len, uint32_t id, const
  * Accepted exactly where all rules of records hold and the shortest list has an entry for each record; the place column
  * then has the number of records. An empty stream is accepted with 0 records. Any list may be longer: its entries
  * behind the last record stay as they were. A record has at least four bytes, so with stream_len / 4 entries in each
- * list 7 is not given.
+ * list 7 is not given (enough-room in crates/records/proofs/Reader.antt).
  *
  * Refusals, in this order: 1; then record by record 2 (first four bytes), 5, 6, 2 (long length), 3, 4; then 7.
  */
