@@ -1,6 +1,8 @@
 /* spool: a host in C over hwp.h.
  *
  *   spool check FILE               is the section sound? If not, the row of bytes around the place
+ *   spool tree FILE                its records as a tree, each with the place and the length of its body; of a text the
+ *                                  characters, with controls in angle brackets
  *   spool fields FILE ID           the text of the field with the id, as UTF-8
  *   spool fill FILE ID VALUE OUT   the section with VALUE (UTF-8) in that field, written to OUT
  *
@@ -25,6 +27,7 @@
 enum { DONE = 0, REFUSED = 1, WRONG = 2 };
 
 static const char usage[] = "usage: spool check FILE\n"
+                            "       spool tree FILE    (each record with the place and the length of its body)\n"
                             "       spool fields FILE ID\n"
                             "       spool fill FILE ID VALUE OUT\n";
 
@@ -79,6 +82,15 @@ static void show_row(struct bytes section, size_t place)
     row[TEXT + 2 + n] = 0;
     fprintf(stderr, "%08zx%s\n%*s^^%s\n", first, row + 8, (int)column(place - first), "",
             at_end ? " the end of the stream, behind its last byte" : "");
+}
+
+/* A refusal of the section itself: its words, and the row around the place where it names one. */
+static int not_sound(const char *file, struct bytes section, uint64_t answer)
+{
+    int status = refused(file, answer);
+    if (*hwp_place_words(hwp_number(answer)))
+        show_row(section, hwp_place(answer));
+    return status;
 }
 
 /* Output is only done once it has left: a full disk is seen here. */
@@ -201,12 +213,14 @@ static void print_character(uint32_t c)
     }
 }
 
-/* Units as UTF-8 and a line feed. What a terminal would act on, and half of a pair, is shown as its number. */
+static uint32_t unit_at(const uint8_t *units, size_t at) { return units[at] | (uint32_t)units[at + 1] << 8; }
+
+/* Units as UTF-8. What a terminal would act on, and half of a pair, is shown as its number. */
 static void print_units(const uint8_t *units, size_t len)
 {
     for (size_t i = 0; i + 1 < len; i += 2) {
-        uint32_t unit = units[i] | (uint32_t)units[i + 1] << 8;
-        uint32_t next = i + 3 < len ? units[i + 2] | (uint32_t)units[i + 3] << 8 : 0;
+        uint32_t unit = unit_at(units, i);
+        uint32_t next = i + 3 < len ? unit_at(units, i + 2) : 0;
         if (unit >= 0xD800 && unit < 0xDC00 && next >= 0xDC00 && next < 0xE000) {
             print_character(0x10000 + (unit - 0xD800) * 0x400 + (next - 0xDC00));
             i += 2;
@@ -216,7 +230,43 @@ static void print_units(const uint8_t *units, size_t len)
             print_character(unit);
         }
     }
-    putchar('\n');
+}
+
+enum { FIELD_START = 3, FIELD_END = 4, LINE_BREAK = 10, PARAGRAPH_END = 13, FIRST_OF_ONE = 24, FIRST_ORDINARY = 32 };
+
+/* The positions that a control takes: its code alone, or eight with the code at both ends. */
+static size_t positions(uint32_t code)
+{
+    return code == LINE_BREAK || code == PARAGRAPH_END || code >= FIRST_OF_ONE ? 1 : 8;
+}
+
+/* The end of the paragraph is not shown: every text has it, at its end. */
+static void print_control(uint32_t code)
+{
+    if (code == FIELD_START)
+        fputs("<field>", stdout);
+    else if (code == FIELD_END)
+        fputs("<end>", stdout);
+    else if (code != PARAGRAPH_END)
+        printf("<control %" PRIu32 ">", code);
+}
+
+/* The text of a sound section in quotes. */
+static void print_text(const uint8_t *text, size_t len)
+{
+    size_t from = 0; /* the ordinary units that are not printed yet start here */
+    putchar('"');
+    for (size_t at = 0; at < len;) {
+        uint32_t unit = unit_at(text, at);
+        if (unit >= FIRST_ORDINARY) {
+            at += 2;
+            continue;
+        }
+        print_units(text + from, at - from);
+        print_control(unit);
+        from = at += 2 * positions(unit);
+    }
+    putchar('"');
 }
 
 static int write_all(int to, struct bytes file)
@@ -275,15 +325,101 @@ static int check(const char *file)
     if (status == DONE) {
         uint64_t answer = hwp_check(section.at, section.len);
         if (hwp_number(answer) != HWP_ACCEPTED) {
-            status = refused(file, answer);
-            if (*hwp_place_words(hwp_number(answer)))
-                show_row(section, hwp_place(answer));
+            status = not_sound(file, section, answer);
         } else {
             printf("%s: accepted, %" PRIu32 " records\n", file, hwp_place(answer));
             status = printed();
         }
     }
     free(section.at);
+    return status;
+}
+
+/* The table of a section's records, and the depth of each in the tree. */
+struct table {
+    size_t count;
+    uint32_t *tags, *levels, *places, *lengths, *parents, *depths;
+};
+
+/* Lists of so many entries and one more, so that no list is null. */
+static int new_table(struct table *t, size_t count)
+{
+    uint32_t **const lists[] = {&t->tags, &t->levels, &t->places, &t->lengths, &t->parents, &t->depths};
+    size_t n = sizeof lists / sizeof *lists;
+    uint32_t *all = malloc(n * (count + 1) * sizeof *all);
+    if (!all)
+        return wrong("no memory");
+    for (size_t k = 0; k < n; k++)
+        *lists[k] = all + k * (count + 1);
+    t->count = count;
+    return DONE;
+}
+
+/* The table of a sound section. Check says how many records there are, so the lists have room at the first try. */
+static int read_table(const char *file, struct bytes section, struct table *t)
+{
+    uint64_t answer = hwp_check(section.at, section.len);
+    if (hwp_number(answer) != HWP_ACCEPTED)
+        return not_sound(file, section, answer);
+    size_t n = hwp_place(answer);
+    int status = new_table(t, n);
+    if (status != DONE)
+        return status;
+    answer = hwp_read_section(section.at, section.len, t->tags, n, t->levels, n, t->places, n, t->lengths, n,
+                              t->parents, n);
+    return hwp_number(answer) == HWP_ACCEPTED ? DONE : not_sound(file, section, answer);
+}
+
+enum { PARAGRAPH = 66, TEXT_RECORD = 67, LIST_HEADER = 72, CONTROL_DATA = 87 };
+
+static void print_kind(uint32_t tag)
+{
+    static const char *const words[] = {"paragraph", "text",           "character shapes", "line layout",
+                                        "marks",     "control header", "list header"};
+    if (tag >= PARAGRAPH && tag <= LIST_HEADER)
+        fputs(words[tag - PARAGRAPH], stdout);
+    else if (tag == CONTROL_DATA)
+        fputs("control data", stdout);
+    else
+        printf("record %" PRIu32, tag);
+}
+
+/* A line of the tree: two blanks for each depth, kind, place and length of the body, and of a text the characters. */
+static void print_record(struct bytes section, const struct table *t, size_t i)
+{
+    for (uint32_t n = 0; n < t->depths[i]; n++)
+        fputs("  ", stdout);
+    print_kind(t->tags[i]);
+    printf(" at %" PRIu32 ", %" PRIu32 " bytes", t->places[i], t->lengths[i]);
+    if (t->tags[i] == TEXT_RECORD) {
+        fputs(": ", stdout);
+        print_text(section.at + t->places[i], t->lengths[i]);
+    }
+    putchar('\n');
+}
+
+/* A parent stands before its children, so its depth is known when they come. */
+static void print_tree(struct bytes section, const struct table *t)
+{
+    for (size_t i = 0; i < t->count; i++) {
+        t->depths[i] = t->parents[i] == i ? 0 : t->depths[t->parents[i]] + 1;
+        print_record(section, t, i);
+    }
+}
+
+static int tree(const char *file)
+{
+    struct bytes section = {NULL, 0};
+    struct table table = {0};
+    int status = read_file(file, &section);
+    if (status == DONE)
+        status = read_table(file, section, &table);
+    if (status == DONE) {
+        print_tree(section, &table);
+        status = printed();
+    }
+    free(section.at);
+    free(table.tags); /* the lists are one piece, and this its start */
     return status;
 }
 
@@ -300,6 +436,7 @@ static int fields(const char *file, const char *id_word)
             status = refused(file, answer);
         } else {
             print_units(section.at + hwp_place(answer), hwp_further(answer));
+            putchar('\n');
             status = printed();
         }
     }
@@ -338,6 +475,8 @@ int main(int argc, char **argv)
     signal(SIGXFSZ, SIG_IGN); /* a file that grows past the limit of the process is then an error of write */
     if (argc == 3 && !strcmp(argv[1], "check"))
         return check(argv[2]);
+    if (argc == 3 && !strcmp(argv[1], "tree"))
+        return tree(argv[2]);
     if (argc == 4 && !strcmp(argv[1], "fields"))
         return fields(argv[2], argv[3]);
     if (argc == 6 && !strcmp(argv[1], "fill"))

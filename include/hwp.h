@@ -1,24 +1,29 @@
-/* hwp.h: check a Hangul 5.0 section, find the text of a field in it, fill a field.
+/* hwp.h: read a Hangul 5.0 record stream into a table, pack a table into a stream, check a section, find the text of a
+ * field in it, fill a field.
  *
- * A section here is a section stream of BodyText, already unpacked: a row of records. Link libhost.a. The three
- * functions are Rattle, proved against document 01; this header is C and is not proved.
+ * A section here is a section stream of BodyText, DocInfo the stream of that name, both already unpacked: a row of
+ * records. Link libhost.a. The seven functions are Rattle, proved against documents 01 and 02; this header is C and is
+ * not proved.
  *
- * What holds for all three:
+ * What holds for all seven:
  *
  * - They take every input. None traps, none runs for ever, and there is nothing that a caller has to check first.
- * - They read the lent bytes and nothing else, write nothing but an accepted sheet, keep nothing between two calls
- *   and use no heap, lock, file or clock. Threads may call them at the same time, each with a sheet of its own.
- * - A pointer goes to as many bytes as the length behind it says, which nobody else changes during the call. It is not
- *   null, not even where the length is 0. The sheet overlaps neither the section nor the value.
+ * - They read what they are lent and nothing else, write nothing but an accepted sheet, table or packed stream, keep
+ *   nothing between two calls and use no heap, lock, file or clock. Threads may call them at the same time, each with
+ *   a buffer and lists of its own.
+ * - A pointer goes to as many bytes as the length behind it says, that of a list to as many entries as the count behind
+ *   it says, which nobody else changes during the call. It is not null, not even where the length or the count is 0.
+ *   What a call writes to (the sheet, the five lists of a read, pack's buffer) overlaps nothing else that the call is
+ *   lent: the lists of a read overlap neither one another nor the stream.
  * - The answer is one number of 64 bits:
  *       number  +  256 x place  +  2^36 x further number
- *   Each of the three stands in full, whatever the input (a theorem). hwp_number, hwp_place and hwp_further below take
- *   it apart, hwp_words says it. Number 0 is 'accepted'; each other number is a refusal, and its further number is 0.
- *   A refusal changes no byte.
- * - The place of a refusal is a byte place in the section: the first wrong byte, or the header of a record, as
- *   hwp_place_words tells; 0 where there is none to name. It can be section_len, one behind the last byte: always for
+ *   Each of the three stands in full, whatever the input (a theorem, with one exception that hwp_pack has). hwp_number,
+ *   hwp_place and hwp_further below take it apart, hwp_words says it. Number 0 is 'accepted'; each other number is a
+ *   refusal, and its further number is 0. A refusal changes no byte and no entry.
+ * - The place of a refusal is a byte place in the section or stream: the first wrong byte, or the header of a record,
+ *   as hwp_place_words tells; 0 where there is none to name. It can be the length, one behind the last byte: always for
  *   2, and for 12 where the text at the end of the section lacks its 13. So read the byte at the place only where the
- *   place is below section_len.
+ *   place is below the length. Of hwp_pack alone it is no byte place but the index of a record.
  * - The same input has the same answer, and where several rules are broken the order below says which one is named.
  */
 #ifndef HWP_H
@@ -31,12 +36,12 @@
 extern "C" {
 #endif
 
-/* The most bytes of a section and of a sheet. */
+/* The most bytes of a stream: a section, DocInfo, a sheet, what pack writes. */
 #define HWP_STREAM_LIMIT 16777216
 /* The most units (16-bit WCHARs) of a value. */
 #define HWP_VALUE_LIMIT 1024
 
-/* The numbers. 7, 16 to 18 and 27 belong to services that this header does not have. */
+/* The numbers. */
 enum {
     HWP_ACCEPTED = 0,
     HWP_STREAM_TOO_LONG = 1,
@@ -64,7 +69,8 @@ enum {
     HWP_MARKS_IN_PARAGRAPH = 24,
     HWP_SHEET_TOO_LONG = 25,
     HWP_BUFFER_TOO_SHORT = 26,
-    HWP_LIST_TOO_SHORT = 27
+    HWP_LIST_TOO_SHORT = 27,
+    HWP_PARENT_WRONG = 28
 };
 
 /* Check: whether the section keeps every rule.
@@ -111,6 +117,71 @@ uint64_t hwp_field_text(const uint8_t *section, size_t section_len, uint32_t id)
 uint64_t hwp_fill(const uint8_t *section, size_t section_len, uint32_t id, const uint8_t *value, size_t value_len,
                   uint8_t *sheet, size_t sheet_len);
 
+/* Read: the table of a stream's records, whatever their kinds.
+ *
+ * Entry i of the five lists is about record i, counted from 0 in the order of the stream:
+ *   tags     its tag, 16 to 1,023
+ *   levels   its level, 0 to 1,023
+ *   places   the byte place of its body in the stream (behind its header, which has 4 or 8 bytes)
+ *   lengths  the length of its body in bytes
+ *   parents  the index of its parent, the nearest earlier record of smaller level; at level 0 its own index
+ * So a parent is never behind its record, and one pass from the front meets every parent before its children.
+ *
+ * Accepted exactly where all rules of records hold and the shortest list has an entry for each record; the place column
+ * then has the number of records. An empty stream is accepted with 0 records. Any list may be longer: its entries
+ * behind the last record stay as they were. A record has at least four bytes, so with stream_len / 4 entries in each
+ * list 7 is not given (enough-room in crates/records/proofs/Reader.antt).
+ *
+ * Refusals, in this order: 1; then record by record 2 (first four bytes), 5, 6, 2 (long length), 3, 4; then 7.
+ */
+uint64_t hwp_read(const uint8_t *stream, size_t stream_len, uint32_t *tags, size_t tags_count, uint32_t *levels,
+                  size_t levels_count, uint32_t *places, size_t places_count, uint32_t *lengths, size_t lengths_count,
+                  uint32_t *parents, size_t parents_count);
+
+/* Section read: the same table, where the stream is a section that keeps every rule.
+ *
+ * Accepted exactly where hwp_check accepts the stream and the shortest list has an entry for each record: with as many
+ * entries as the place column of hwp_check's answer has, 7 is not given. The lists are as in hwp_read.
+ *
+ * Refusals, in this order: those of hwp_read, with 7 among them; then those of hwp_check from 9 on.
+ */
+uint64_t hwp_read_section(const uint8_t *stream, size_t stream_len, uint32_t *tags, size_t tags_count, uint32_t *levels,
+                          size_t levels_count, uint32_t *places, size_t places_count, uint32_t *lengths,
+                          size_t lengths_count, uint32_t *parents, size_t parents_count);
+
+/* DocInfo read: the same table, where the stream is a DocInfo that keeps every rule.
+ *
+ * Accepted exactly where all rules of records hold, the shortest list has an entry for each record, there is one record
+ * 16 and one record 17, both at level 0 and of a lawful length, and the counts in record 17 are those of its children.
+ * The lists are as in hwp_read.
+ *
+ * Refusals, in this order: those of hwp_read, with 7 among them; 16 for record 16, 16 for record 17; 17 for record 16,
+ * 17 for record 17; 18.
+ */
+uint64_t hwp_read_docinfo(const uint8_t *stream, size_t stream_len, uint32_t *tags, size_t tags_count, uint32_t *levels,
+                          size_t levels_count, uint32_t *places, size_t places_count, uint32_t *lengths,
+                          size_t lengths_count, uint32_t *parents, size_t parents_count);
+
+/* Pack: writes to out the stream of count records whose table is in the five lists.
+ *
+ * The lists are as hwp_read writes them, and a list may be longer: entries behind the first count are not looked at.
+ * The places are those of the bodies in bytes, where bodies stand in any order and may overlap. Accepted: the place
+ * column has the length written; the bytes of out behind it stay as they were. Each header has the form that its length
+ * asks for. With count 0 nothing is written.
+ *
+ * Packing the table that hwp_read wrote of a stream, with the stream as the bytes and room for it, gives the stream
+ * back; reading what was packed gives the tags, levels, lengths, parents and bodies that were packed (read-then-pack
+ * and pack-then-read in crates/pack/proofs/RoundTrip.antt, theorems).
+ *
+ * Refusals, in this order: 27; then record by record 5, 6, 28, 4; 1, where the stream would be over the limit; 26. The
+ * place of 5, 6, 28 and 4 is the record's index, where one of more than 28 bits, which only lists of more entries than
+ * that have, is given as 268,435,455; that of 27, 1 and 26 is 0.
+ */
+uint64_t hwp_pack(size_t count, const uint32_t *tags, size_t tags_count, const uint32_t *levels, size_t levels_count,
+                  const uint32_t *places, size_t places_count, const uint32_t *lengths, size_t lengths_count,
+                  const uint32_t *parents, size_t parents_count, const uint8_t *bytes, size_t bytes_len, uint8_t *out,
+                  size_t out_len);
+
 /* The number of an answer. */
 static inline unsigned hwp_number(uint64_t answer) { return (unsigned)(answer & 255u); }
 
@@ -133,11 +204,12 @@ static inline const char *hwp_words(unsigned number)
     case HWP_LONG_LENGTH_TOO_SMALL:
         return "a record of fewer than 4,095 bytes has the long form of the length";
     case HWP_BODY_PAST_END:
-        return "the body of a record runs past the end of the stream";
+        return "the body of a record runs past the end of the stream, or in pack of the lent bytes";
     case HWP_TAG_OUTSIDE:
-        return "a record has a tag below 16, and those are reserved";
+        return "a record has a tag below 16, and those are reserved, or in pack one above 1,023";
     case HWP_LEVEL_RULE:
-        return "the first record is not at level 0, or a record is more than one level deeper than the one before it";
+        return "the first record is not at level 0, or a record is more than one level deeper than the one before it, "
+               "or in pack at a level above 1,023";
     case HWP_NO_ROOM:
         return "there are more records than the lists have room for";
     case HWP_PARAGRAPH_HEADER_SHORT:
@@ -180,15 +252,19 @@ static inline const char *hwp_words(unsigned number)
     case HWP_SHEET_TOO_LONG:
         return "the filled sheet would have more than 16,777,216 bytes";
     case HWP_BUFFER_TOO_SHORT:
-        return "the sheet is longer than the buffer lent for it";
+        return "the sheet, or what pack is to write, is longer than the buffer lent for it";
     case HWP_LIST_TOO_SHORT:
         return "a list is shorter than the number of records";
+    case HWP_PARENT_WRONG:
+        return "the parent given for a record is not the nearest earlier record of smaller level, or at level 0 not "
+               "the record itself";
     default:
         return "no number of this library";
     }
 }
 
-/* What the place of a refusal is the place of; empty where it is always 0 and names nothing. */
+/* What the place of a refusal is the place of (in pack a record by its index); empty where it is always 0 and names
+ * nothing. */
 static inline const char *hwp_place_words(unsigned number)
 {
     switch (number) {
@@ -224,6 +300,8 @@ static inline const char *hwp_place_words(unsigned number)
         return "the record too many or not at level 0, or 0 where one is lacking";
     case HWP_COUNT_UNMATCHED:
         return "the first negative count, else the first that does not match (of counts 1 to 7 count 1)";
+    case HWP_PARENT_WRONG:
+        return "the record, by its index";
     default:
         return "";
     }

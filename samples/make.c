@@ -5,8 +5,8 @@
  *   make-samples map NAME    the same of another, as `water.docinfo` or `damaged/04-body-past-end.section`
  *
  * A sheet is made as a list of records, each a row of pieces with a name; damage is done to that list, and only then
- * are headers written and places known. So `expected.txt`, which says what each call answers for each file, and the
- * listings come from how the sheets were made and not from reading them. Numbers of tables are those of the published
+ * are headers written and places known. So `expected.txt`, which says what each call answers for each file, the listings
+ * and the trees come from how the sheets were made and not from reading them. Numbers of tables are those of the published
  * format, revision 1.1. Nothing here is copied from a file of somebody's.
  */
 #include <stdint.h>
@@ -1074,6 +1074,61 @@ static void write_listing(FILE *to)
     fprintf(to, "ok %d\n", sheet.count);
 }
 
+/* A unit as UTF-8; the sheets hold no half of a pair. */
+static void put_character(FILE *to, unsigned unit)
+{
+    if (unit < 0x80) {
+        fputc((int)unit, to);
+    } else if (unit < 0x800) {
+        fprintf(to, "%c%c", 0xC0 | unit >> 6, 0x80 | (unit & 0x3F));
+    } else {
+        fprintf(to, "%c%c%c", 0xE0 | unit >> 12, 0x80 | (unit >> 6 & 0x3F), 0x80 | (unit & 0x3F));
+    }
+}
+
+/* A piece of a text is a run of ordinary units, or one control whole. */
+static void write_run(FILE *to, const uint8_t *at, size_t len)
+{
+    unsigned code = at[0] | (unsigned)at[1] << 8;
+    if (code == 3)
+        fputs("<field>", to);
+    else if (code == 4)
+        fputs("<end>", to);
+    else if (code < 32 && code != 13)
+        fprintf(to, "<control %u>", code);
+    for (size_t i = 0; code >= 32 && i < len; i += 2)
+        put_character(to, at[i] | (unsigned)at[i + 1] << 8);
+}
+
+static void write_kind(FILE *to, unsigned tag)
+{
+    static const char *const kinds[7] = {"paragraph", "text", "character shapes", "line layout", "marks", "control header", "list header"};
+    if (tag >= 66 && tag <= 72)
+        fputs(kinds[tag - 66], to);
+    else if (tag == 87)
+        fputs("control data", to);
+    else
+        fprintf(to, "record %u", tag);
+}
+
+/* What 'spool tree' prints of a sound section: here by the levels that the records were given. */
+static void write_tree(FILE *to)
+{
+    for (int i = 0; i < sheet.count; i++) {
+        const struct record *r = &sheet.records[i];
+        fprintf(to, "%*s", (int)(2 * r->level), "");
+        write_kind(to, r->tag);
+        fprintf(to, " at %zu, %zu bytes", r->place + r->lead, r->len);
+        if (r->tag == 67) {
+            fputs(": \"", to);
+            for (int p = 0; p < r->npieces; p++)
+                write_run(to, r->body + r->pieces[p].at, r->pieces[p].len);
+            fputc('"', to);
+        }
+        fputc('\n', to);
+    }
+}
+
 /* The place that a refusal of this sample names. */
 static size_t place_of(const struct sample *s)
 {
@@ -1124,6 +1179,9 @@ static void write_all(const char *folder)
         if (!s->damage && !is_docinfo(s->name)) {
             file = opened(folder, s->name, ".listing");
             write_listing(file);
+            closed(file);
+            file = opened(folder, s->name, ".tree");
+            write_tree(file);
             closed(file);
         }
     }

@@ -1,10 +1,12 @@
-/* guard.c: the three functions of hwp.h, called as the spool host calls them, with every buffer against pages that trap.
+/* guard.c: check, field text, fill and the section read of hwp.h, called as the spool host calls them, with every
+ * buffer and list against pages that trap. The other reads and pack are in reads.c.
  *
  *   guard SAMPLES    SAMPLES is the folder of the samples with its expected.txt
  *
  * Document 01's pairs about fills, each number of check, field text and fill at its edge, the wrong byte that 2, 3, 12
- * and 13 name in all three, and every sample. Each call is made twice, with the buffers before the trapping page and
- * behind it; its answer and every byte of the sheet buffer are compared.
+ * and 13 name in all four, and every sample. Each call is made twice, with the buffers before the trapping page and
+ * behind it; its answer, every byte of the sheet buffer and, where the section read is refused, every entry of its
+ * lists are compared.
  */
 #define _GNU_SOURCE
 #define PROGRAM "guard"
@@ -14,7 +16,30 @@
 
 #include "hwp.h"
 
+#include "table.h"
+
 #define BYTE 0xA5
+#define RECORDS 4096u /* more than any section here has */
+
+/* The section read with room for all records answers as check does. */
+static void section_is(const struct stream *s, uint64_t asked)
+{
+    int accepted = hwp_number(asked) == HWP_ACCEPTED;
+    size_t room = accepted ? hwp_place(asked) : RECORDS;
+    for (int at_end = 0; at_end < 2; at_end++) {
+        struct lent section = given(s->bytes, s->length, at_end), l[LISTS];
+        for (int k = 0; k < LISTS; k++)
+            l[k] = list(room, at_end);
+        uint64_t found = hwp_read_section(section.part, s->length, entries(l[TAG]), room, entries(l[LEVEL]), room,
+                                          entries(l[PLACE]), room, entries(l[LENGTH]), room, entries(l[PARENT]), room);
+        expect(found == asked, "answer of the section read");
+        for (int k = 0; k < LISTS; k++) {
+            expect(accepted || list_is(l[k], room, k, NULL, 0), list_names[k]);
+            give_back(l[k]);
+        }
+        give_back(section);
+    }
+}
 
 static void check_is(const char *name, const struct stream *s, uint64_t asked)
 {
@@ -24,6 +49,7 @@ static void check_is(const char *name, const struct stream *s, uint64_t asked)
         expect(hwp_check(section.part, s->length) == asked, "answer of check");
         give_back(section);
     }
+    section_is(s, asked);
 }
 
 static void field_is(const char *name, const struct stream *s, uint32_t id, uint64_t asked)
@@ -60,7 +86,7 @@ static void fill_is(const char *name, const struct stream *s, uint32_t id, struc
     }
 }
 
-/* A refusal of the section, which all three hand on. */
+/* A refusal of the section, which all four hand on. */
 static void refused_is(const char *name, const struct stream *s, unsigned number, size_t place)
 {
     check_is(name, s, answer(number, place, 0));

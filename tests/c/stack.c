@@ -1,11 +1,12 @@
-/* stack.c: how much stack the three functions of hwp.h need.
+/* stack.c: how much stack the seven functions of hwp.h need.
  *
  *   stack SAMPLES WHICH    SAMPLES is the folder of the samples with its expected.txt, WHICH a word for the archive
  *
  * Each call runs on a stack of its own, painted and above a page that traps. What it needed goes down to the deepest
  * byte that changed; what an empty call needs is taken off. Every call is made on two paints, so that a byte is also
- * seen where what is written to it is the paint. The last line has the most that each of the three needed, over every
- * sample, accepted or refused, and over hostile nesting with a field at its bottom. More than ROOM is a failure.
+ * seen where what is written to it is the paint. The last line has the most that each of the seven needed, over every
+ * sample, accepted or refused, and over hostile nesting with a field at its bottom; of the reads and pack also over 16
+ * MiB of the shortest records, to the deepest level again and again. More than ROOM is a failure.
  */
 #define _GNU_SOURCE
 #define PROGRAM "stack"
@@ -17,6 +18,8 @@
 #include <ucontext.h>
 
 #include "hwp.h"
+
+#include "table.h"
 
 #define ROOM 16384u    /* what a C host has for a call */
 #define PAINTED 65536u /* bytes that are painted */
@@ -80,11 +83,13 @@ static void self_test(void)
 
 /* ---- the calls ---- */
 
-/* What the call at hand is lent, and what it answered. */
+/* What the call at hand is lent, and what it answered. The table is what the reads write and pack takes. */
 static struct {
     struct stream section, sheet;
     struct value value;
     uint32_t id;
+    struct table table;
+    size_t records; /* how many of the table are packed */
     uint64_t answer;
 } hand;
 
@@ -101,14 +106,41 @@ static void call_fill(void)
                            hand.sheet.bytes, hand.sheet.length);
 }
 
+static void read_by(read_call *read)
+{
+    const struct table *t = &hand.table;
+    hand.answer = read(hand.section.bytes, hand.section.length, t->part[TAG], t->count, t->part[LEVEL], t->count,
+                       t->part[PLACE], t->count, t->part[LENGTH], t->count, t->part[PARENT], t->count);
+    if (hwp_number(hand.answer) == HWP_ACCEPTED)
+        hand.records = hwp_place(hand.answer);
+}
+
+static void call_read(void) { read_by(hwp_read); }
+static void call_read_section(void) { read_by(hwp_read_section); }
+static void call_read_docinfo(void) { read_by(hwp_read_docinfo); }
+
+static void call_pack(void)
+{
+    const struct table *t = &hand.table;
+    hand.answer = hwp_pack(hand.records, t->part[TAG], t->count, t->part[LEVEL], t->count, t->part[PLACE], t->count,
+                           t->part[LENGTH], t->count, t->part[PARENT], t->count, hand.section.bytes,
+                           hand.section.length, hand.sheet.bytes, hand.sheet.length);
+}
+
+enum { CHECK, FIELD_TEXT, FILL, READ, READ_SECTION, READ_DOCINFO, PACK, CALLS };
+
 static struct call {
-    const char *name, *word; /* the word is that of expected.txt */
+    const char *name, *word; /* the word is that of expected.txt; read and pack have none */
     void (*function)(void);
     size_t most;
-} calls[3] = {
+} calls[CALLS] = {
     {"check", "check", call_check, 0},
     {"field text", "field", call_field_text, 0},
     {"fill", "fill", call_fill, 0},
+    {"read", "", call_read, 0},
+    {"section read", "check", call_read_section, 0},
+    {"DocInfo read", "docinfo", call_read_docinfo, 0},
+    {"pack", "", call_pack, 0}, /* what the reads before it have left in the table */
 };
 
 /* Makes a call with what is at hand, and keeps what it needed. */
@@ -119,9 +151,12 @@ static uint64_t measure(struct call *call)
     return hand.answer;
 }
 
-/* Takes a section in hand, the longest value and a buffer for the longest sheet. */
+/* Takes a section in hand, the longest value, a buffer for the longest sheet and lists for all of its records. */
 static void take(struct stream section, uint32_t id)
 {
+    hand.table = new_table(NULL, 0, section.length / 4);
+    hand.table.count = section.length / 4;
+    hand.records = 0;
     hand.section = section;
     hand.id = id;
     hand.value = units(HWP_VALUE_LIMIT, '1');
@@ -133,16 +168,15 @@ static void put_down(void)
 {
     free(hand.section.bytes);
     free(hand.sheet.bytes);
+    drop_table(hand.table);
 }
 
-/* All three calls on a sample with the id of its line; the answer is asked of the one that the line is about. */
+/* All calls on a sample with the id of its line; the answer is asked of those that the line is about. */
 static void sample(const char *folder, const struct line *line)
 {
-    if (!strcmp(line->call, "docinfo"))
-        return;
     now = line->name;
     take(read_sample(folder, line->name), line->id);
-    for (int i = 0; i < 3; i++) {
+    for (int i = 0; i < CALLS; i++) {
         uint64_t told = measure(&calls[i]);
         expect(strcmp(line->call, calls[i].word) || told == answer(line->number, line->place, line->further), "answer");
     }
@@ -172,13 +206,13 @@ static struct stream nested(struct paragraph last)
     return s;
 }
 
-/* The numbers of the three calls. */
+/* The numbers of the calls; DocInfo read lacks a record 16, read and pack accept. */
 static void nested_is(const char *name, struct stream s, unsigned check, unsigned field_text, unsigned fill)
 {
-    const unsigned numbers[3] = {check, field_text, fill};
+    const unsigned numbers[CALLS] = {check, field_text, fill, 0, check, 16, 0};
     now = name;
     take(s, 7);
-    for (int i = 0; i < 3; i++)
+    for (int i = 0; i < CALLS; i++)
         expect(hwp_number(measure(&calls[i])) == numbers[i], calls[i].name);
     put_down();
 }
@@ -197,6 +231,30 @@ static void hostile(void)
     struct stream s = nested(good);
     s.bytes[control_header_of(&s) + 4 + 9] = 200;
     nested_is("nested, a command too long", s, 15, 15, 15);
+}
+
+/* As long and as deep as a stream can be: records of four bytes, to level 1,023 again and again, with a record 16 and a
+ * record 17 of sixteen zeros before them, so that the DocInfo read goes to its end. */
+static void longest(void)
+{
+    struct stream s = new_stream(LIMIT);
+    put_record(&s, 16, 0, 30);
+    put_header(&s, 17, 0, 32);
+    memset(s.bytes + s.length, 0, 32);
+    s.length += 32;
+    put_record(&s, 200, 0, 2); /* so that the others end at the limit */
+    for (uint32_t level = 0; s.length < LIMIT; level = (level + 1) % 1024)
+        put_header(&s, 200, level, 0);
+    now = "16 MiB of short records";
+    take(s, 7);
+    for (int i = READ; i < CALLS; i++)
+        expect(hwp_number(measure(&calls[i])) == HWP_ACCEPTED, calls[i].name);
+    hand.table.part[PARENT][hand.records - 1]++;
+    expect(hwp_number(measure(&calls[PACK])) == HWP_PARENT_WRONG, "28 of the last record");
+    hand.section.bytes[LIMIT - 4] = 15;
+    for (int i = READ; i < PACK; i++)
+        expect(hwp_number(measure(&calls[i])) == HWP_TAG_OUTSIDE, calls[i].name);
+    put_down();
 }
 
 /* A trap on the painted stack is told from another. */
@@ -221,7 +279,7 @@ static void say_needs(const char *which)
     struct utsname machine;
     uname(&machine);
     printf(PROGRAM ":");
-    for (int i = 0; i < 3; i++) {
+    for (int i = 0; i < CALLS; i++) {
         printf(i ? ", %s " : " %s ", calls[i].name);
         say_bytes(calls[i].most);
     }
@@ -239,7 +297,8 @@ int main(int argc, char **argv)
     self_test();
     each_line(argv[1], sample);
     hostile();
-    for (int i = 0; i < 3; i++) {
+    longest();
+    for (int i = 0; i < CALLS; i++) {
         now = calls[i].name;
         expect(fits(calls[i].most), "more than 16,384 bytes of stack");
     }

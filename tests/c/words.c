@@ -8,7 +8,7 @@
 
 #include "hwp.h"
 
-#define KNOWN(n) ((n) <= 27 && (n) != 19)
+#define KNOWN(n) ((n) <= 28 && (n) != 19)
 /* whose place is the wrong byte, each another one */
 #define AT_BYTE(n) ((n) == 2 || (n) == 3 || (n) == 12 || (n) == 13 || (n) == 18)
 
@@ -50,11 +50,11 @@ int main(int argc, char **argv)
     apart(255, 0xFFFFFFF, 0xFFFFFFF);
     for (unsigned n = 0; n < 256; n++) {
         const char *said = hwp_words(n);
-        expect((strcmp(said, hwp_words(255)) != 0) == KNOWN(n), "words for the numbers of document 01 alone", n);
+        expect((strcmp(said, hwp_words(255)) != 0) == KNOWN(n), "words for the numbers of the documents alone", n);
         for (unsigned m = 0; m < n && KNOWN(n); m++)
             expect(!KNOWN(m) || strcmp(said, hwp_words(m)), "the same words as another number", n);
         /* 1, 20, 21 and 25 to 27 name no place, 0 has none */
-        int places = KNOWN(n) && n != 0 && n != 1 && n != 20 && n != 21 && n < 25;
+        int places = KNOWN(n) && n != 0 && n != 1 && n != 20 && n != 21 && (n < 25 || n == 28);
         expect((*hwp_place_words(n) != 0) == places, "words for the place", n);
         for (unsigned m = 0; m < 256 && AT_BYTE(n); m++)
             expect(m == n || strcmp(hwp_place_words(n), hwp_place_words(m)), "the place of another number", n);

@@ -1,5 +1,5 @@
-/* wrong.c: document 01's wrong parts ('What acceptance of a promise means'), and two that name a record in the place of
- * the wrong byte; the C tests have to catch each.
+/* wrong.c: document 01's wrong parts ('What acceptance of a promise means'), two that name a record in the place of the
+ * wrong byte, and reads and a pack that are wrong about parents; the C tests have to catch each.
  *
  * It is linked between a test and the right library by the linker's --wrap: the test's hwp_fill is __wrap_hwp_fill, and
  * __real_hwp_fill is the library's. PART names the wrong part. Each is right in all but its one fault, so that nothing
@@ -25,6 +25,14 @@ enum part {
     LENGTH_GUESSED, /* as if the value were put in beside the old one */
     NAMES_HEADER,   /* field text names the header that is cut, not the end of the section */
     NAMES_TEXT,     /* fill names the text's record, not the unit */
+    PARENT_BEFORE,  /* the reads give the record before as the parent, whatever its level */
+    PARENT_FIRST,   /* the reads give the first record as the parent at level 0 */
+    FOUR_LISTS,     /* the reads do not count the fifth list among the rooms */
+    REFUSED_ENTRY,  /* a refused read has written a parent */
+    ENTRY_BEHIND,   /* a read writes a parent behind the last record */
+    NO_28,          /* pack does not look at the parents */
+    LATE_28,        /* pack gives 28 behind 4 of the record */
+    PARENT_NAMED,   /* pack names the wrong parent, not the record */
 };
 
 uint64_t __real_hwp_check(const uint8_t *section, size_t section_len);
@@ -160,4 +168,93 @@ uint64_t __wrap_hwp_fill(const uint8_t *section, size_t section_len, uint32_t id
         break;
     }
     return hand_out(right.at, right.length, sheet, sheet_len);
+}
+
+/* ---- parents ---- */
+
+#define MOST (HWP_STREAM_LIMIT / 4) /* records of a stream */
+
+typedef uint64_t read_call(const uint8_t *stream, size_t stream_len, uint32_t *tags, size_t tags_count,
+                           uint32_t *levels, size_t levels_count, uint32_t *places, size_t places_count,
+                           uint32_t *lengths, size_t lengths_count, uint32_t *parents, size_t parents_count);
+
+/* The right parents, where the list that is lent may be too short for them. */
+static uint32_t right_parents[MOST];
+
+static void wrong_parents(uint64_t answer, const uint32_t *levels, uint32_t *parents, size_t parents_count)
+{
+    int accepted = hwp_number(answer) == HWP_ACCEPTED;
+    uint32_t count = accepted ? hwp_place(answer) : 0;
+    for (uint32_t i = 0; i < count; i++) {
+        if (PART == PARENT_BEFORE && levels[i])
+            parents[i] = i - 1;
+        if (PART == PARENT_FIRST && !levels[i])
+            parents[i] = 0;
+        if (PART == FOUR_LISTS && i < parents_count)
+            parents[i] = right_parents[i];
+    }
+    if (PART == (accepted ? ENTRY_BEHIND : REFUSED_ENTRY) && count < parents_count)
+        parents[count] = count;
+}
+
+#define WRONG_READ(name)                                                                                               \
+    read_call __real_##name, __wrap_##name;                                                                            \
+    uint64_t __wrap_##name(const uint8_t *stream, size_t stream_len, uint32_t *tags, size_t tags_count,                \
+                           uint32_t *levels, size_t levels_count, uint32_t *places, size_t places_count,               \
+                           uint32_t *lengths, size_t lengths_count, uint32_t *parents, size_t parents_count)           \
+    {                                                                                                                  \
+        int four = PART == FOUR_LISTS;                                                                                 \
+        uint64_t told = __real_##name(stream, stream_len, tags, tags_count, levels, levels_count, places,              \
+                                      places_count, lengths, lengths_count, four ? right_parents : parents,            \
+                                      four ? MOST : parents_count);                                                    \
+        wrong_parents(told, levels, parents, parents_count);                                                           \
+        return told;                                                                                                   \
+    }
+
+WRONG_READ(hwp_read)
+WRONG_READ(hwp_read_section)
+WRONG_READ(hwp_read_docinfo)
+
+uint64_t __real_hwp_pack(size_t count, const uint32_t *tags, size_t tags_count, const uint32_t *levels,
+                         size_t levels_count, const uint32_t *places, size_t places_count, const uint32_t *lengths,
+                         size_t lengths_count, const uint32_t *parents, size_t parents_count, const uint8_t *bytes,
+                         size_t bytes_len, uint8_t *out, size_t out_len);
+uint64_t __wrap_hwp_pack(size_t count, const uint32_t *tags, size_t tags_count, const uint32_t *levels,
+                         size_t levels_count, const uint32_t *places, size_t places_count, const uint32_t *lengths,
+                         size_t lengths_count, const uint32_t *parents, size_t parents_count, const uint8_t *bytes,
+                         size_t bytes_len, uint8_t *out, size_t out_len);
+
+/* The parents of the first records, by lawful levels. */
+static void find_parents(const uint32_t *levels, uint32_t count)
+{
+    for (uint32_t i = 0; i < count; i++) {
+        uint32_t p = i;
+        while (levels[i] && levels[p] >= levels[i])
+            p = p == i ? i - 1 : right_parents[p];
+        right_parents[i] = p;
+    }
+}
+
+/* With the parents mended up to the record that 28 names the others stay as they are, so 28 can come again. */
+uint64_t __wrap_hwp_pack(size_t count, const uint32_t *tags, size_t tags_count, const uint32_t *levels,
+                         size_t levels_count, const uint32_t *places, size_t places_count, const uint32_t *lengths,
+                         size_t lengths_count, const uint32_t *parents, size_t parents_count, const uint8_t *bytes,
+                         size_t bytes_len, uint8_t *out, size_t out_len)
+{
+    uint64_t told = __real_hwp_pack(count, tags, tags_count, levels, levels_count, places, places_count, lengths,
+                                    lengths_count, parents, parents_count, bytes, bytes_len, out, out_len);
+    uint64_t mended = told;
+    if (PART == PARENT_NAMED && hwp_number(told) == HWP_PARENT_WRONG)
+        return HWP_PARENT_WRONG + 256 * (uint64_t)(parents[hwp_place(told)] & 0xFFFFFFFu);
+    while ((PART == NO_28 || PART == LATE_28) && hwp_number(mended) == HWP_PARENT_WRONG) {
+        uint32_t known = hwp_place(mended) + 1;
+        find_parents(levels, known);
+        memcpy(right_parents + known, parents + known, (count - known) * sizeof *parents);
+        mended = __real_hwp_pack(count, tags, tags_count, levels, levels_count, places, places_count, lengths,
+                                 lengths_count, right_parents, count, bytes, bytes_len, out,
+                                 PART == NO_28 ? out_len : 0);
+        if (PART == LATE_28)
+            return hwp_number(mended) == HWP_BODY_PAST_END && hwp_place(mended) + 1 == known ? mended : told;
+    }
+    return mended;
 }

@@ -114,7 +114,7 @@ module _ (s : List ℕ) (room : ℕ) where
   unfolding docinfoAnswer
   answer-read a e = ap (λ (x : Answer). afterRead x (docinfoFault (readAll s .recs))) e
 
-  -- what DocInfo's rules accept is answered as read answers
-  pub answer-accepted : (n : ℕ) → docinfoAnswer s room ≡ A.Accepted n → readAnswer s room ≡ docinfoAnswer s room
+  -- what DocInfo's rules accept read accepts too
+  pub answer-accepted : (n : ℕ) → docinfoAnswer s room ≡ A.Accepted n → readAnswer s room ≡ A.Accepted n
   unfolding docinfoAnswer
-  answer-accepted n e = judged-accepted (readAnswer s room) (docinfoFault (readAll s .recs)) n e .0 ∙ sym e
+  answer-accepted n e = judged-accepted (readAnswer s room) (docinfoFault (readAll s .recs)) n e .0

@@ -9,7 +9,6 @@ pub use children::count_children;
 pub use counts::Group;
 pub use counts::Verdict;
 pub use read::check_docinfo;
-pub use read::read_docinfo;
 pub use seek::Sole;
 pub use seek::Sought;
 pub use seek::only;

@@ -1,4 +1,4 @@
-// The DocInfo read.
+// What the DocInfo read answers.
 use crate::counts::Verdict;
 use crate::counts::judge_counts;
 use crate::seek::Sole;
@@ -15,7 +15,6 @@ use records::refused;
 ghost use mathlib.Core.Path.{_≡_};
 ghost use Rattle.records.specs.Reading.{readAll};
 ghost use Rattle.records.specs.Table.{settled};
-ghost use Rattle.records.specs.Promise.{Promised};
 ghost use Rattle.docinfo.specs.Only.{locatedAt, InStream};
 ghost use Rattle.docinfo.specs.DocInfo.{bodiesFault, docinfoFault, docinfoAnswer};
 
@@ -53,29 +52,12 @@ fn judge(s: &[u8], n: usize) -> Answer
     }
 }
 
-// The DocInfo read without lists: what it answers where the shortest would have `room` entries.
+// What the DocInfo read answers where the shortest list has `room` entries.
 pub fn check_docinfo(s: &[u8], room: usize) -> Answer
     ensures { λ r. ⌜ r ≡ docinfoAnswer (now (s .entry)) room ⌝ }
 {
     match records::scan(s, room) {
         Answer::Accepted(n) => judge(s, n),
-        Answer::Refused(r) => Answer::Refused(r),
-    }
-}
-
-// Reads DocInfo's records into four lists: tag, level, body place and body length. A refusal changes no entry; entries past the
-// records stay.
-pub fn read_docinfo(
-    s: &[u8],
-    tags: &mut [u32],
-    levels: &mut [u32],
-    places: &mut [u32],
-    lengths: &mut [u32],
-) -> Answer
-    ensures { λ r. ⌜ Promised docinfoAnswer (now (s .entry)) (now (tags .entry)) (now (levels .entry)) (now (places .entry)) (now (lengths .entry)) r (now (tags .exit)) (now (levels .exit)) (now (places .exit)) (now (lengths .exit)) ⌝ }
-{
-    match check_docinfo(s, records::room(tags, levels, places, lengths)) {
-        Answer::Accepted(_) => records::read(s, tags, levels, places, lengths),
         Answer::Refused(r) => Answer::Refused(r),
     }
 }

@@ -1,2 +1,4 @@
 pub mod ToldLaws
+pub mod ToldTableLaws
+pub mod ToldPackLaws
 pub mod ReadBack

@@ -1,7 +1,15 @@
-// The C face: check, field text and fill for the spool host, each answering with one number (document 01, 'What the part does').
+// The C face: every service for programs in C, each answering with one number (document 01, 'What the part does'). Here check, field text and
+// fill; beside it the reads and pack.
+mod packing;
+mod reading;
+
 use fields::field_text;
 use fields::fill;
 use filling::TextAnswer;
+pub use packing::hwp_pack;
+pub use reading::hwp_read;
+pub use reading::hwp_read_docinfo;
+pub use reading::hwp_read_section;
 use records::Answer;
 use records::bits;
 use section::check;

@@ -7,8 +7,8 @@ use lib.ListN.{length}
 use Rattle.records.specs.declared.fault.Fault.{Fault}
 use Rattle.records.specs.Answers.{numberOf, placeBits, hostForm}
 use Rattle.records.specs.Records.{Rec, encode}
-use Rattle.records.specs.Table.{shortest, written}
-use Rattle.pack.specs.Rows.{rows, records, Inside}
+use Rattle.records.specs.Table.{Lists, shortest, written}
+use Rattle.pack.specs.Rows.{rowsIn, records, Inside}
 use Rattle.pack.specs.Packing.{packAnswer, leaves, number, place}
 use Rattle.pack.specs.Promise.{Packs}
 use Rattle.pack.specs.declared.judge.Index.{Index}
@@ -18,23 +18,23 @@ use Rattle.pack.proofs.Reader.{accepted, sound-inside}
 
 -- ---- the promise
 
-module _ (count : ℕ) (t l p q bytes out : List ℕ) where
+module _ (count : ℕ) (k : Lists) (bytes out : List ℕ) where
   abbrev recs : List Rec
-  recs = records bytes (rows count t l p q)
+  recs = records bytes (rowsIn count k)
 
-  module _ (answer : Packed) (e : answer ≡ packAnswer count t l p q bytes (length out)) where
-    pub packs-refused : (f : Fault) (i : Index) → answer ≡ P.Refused f i → Packs count t l p q bytes out answer out
+  module _ (answer : Packed) (e : answer ≡ packAnswer count k bytes (length out)) where
+    pub packs-refused : (f : Fault) (i : Index) → answer ≡ P.Refused f i → Packs count k bytes out answer out
     packs-refused f i r = record { answer-is = e; out-is = ap (λ (a : Packed). leaves a recs out) (sym r ∙ e) }
 
-    pub packs-laid : (n : ℕ) (out′ : List ℕ) → answer ≡ P.Length n → out′ ≡ written (encode recs) out → Packs count t l p q bytes out answer out′
+    pub packs-laid : (n : ℕ) (out′ : List ℕ) → answer ≡ P.Length n → out′ ≡ written (encode recs) out → Packs count k bytes out answer out′
     packs-laid n out′ r w = record { answer-is = e; out-is = w ∙ ap (λ (a : Packed). leaves a recs out) (sym r ∙ e) }
 
     -- what the second pass asks
     pub may-lay : (n : ℕ) → answer ≡ P.Length n
-        → (count ≤ shortest t l p q) × (Inside (length bytes) (rows count t l p q) × (length (encode recs) ≤ length out))
+        → (count ≤ shortest (k .tags) (k .levels) (k .places) (k .lengths)) × (Inside (length bytes) (rowsIn count k) × (length (encode recs) ≤ length out))
     may-lay n r =
-        let a = accepted count t l p q bytes (length out) n (sym e ∙ r) in
-        (a .listed, (sound-inside 0 (length bytes) (rows count t l p q) (a .sound), omega (arith, a .length-is, a .roomy)))
+        let a = accepted count k bytes (length out) n (sym e ∙ r) in
+        (omega (arith, a .listed), (sound-inside 0 (length bytes) (rowsIn count k) (a .sound), omega (arith, a .length-is, a .roomy)))
 
 -- ---- the host's form
 

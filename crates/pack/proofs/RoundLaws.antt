@@ -6,12 +6,13 @@ use mathlib.Core.List.{List, [], _∷_, _++_, map, append-assoc}
 use lib.ListN.{length, getD, take, drop, length-append, length-drop}
 use lib.Seq.{take-at, drop-at, drop-drop, take-append-seam}
 use Rattle.records.specs.Records.{Rec, limit, leadOf, headerOf, encodeOne, encode, size, Lawful}
-use Rattle.records.specs.Table.{tagOf, levelOf, lengthOf, placesFrom, written, Table}
+use Rattle.records.specs.Table.{tagOf, levelOf, lengthOf, placesFrom, written, Lists, tabled}
 use Rattle.records.proofs.HeaderLaws.{length-part}
 use Rattle.records.proofs.ReadingLaws.{length-headerOf, length-encodeOne, size-least}
 use Rattle.records.proofs.ScanLaws.{length-encode}
-use Rattle.pack.specs.Rows.{recordOf, Row, rowOf, rows, pointed, records, Inside}
+use Rattle.pack.specs.Rows.{recordOf, Row, rowOf, rows, rowsIn, pointed, records, Inside}
 use Rattle.pack.specs.Packing.{SoundRows}
+use Rattle.pack.proofs.RowLaws.{one-more}
 
 -- ---- the rows of a table that read wrote
 
@@ -27,13 +28,9 @@ table-rows at [] t l p q = refl
 table-rows at (r ∷ rs) t l p q =
     ap (λ (x : List Row). rowOf (r .tag) (r .level) (at + leadOf (length (r .body))) (length (r .body)) ∷ x) (table-rows (at + size r) rs t l p q)
 
-pub table-of : (n : ℕ) (rs : List Rec) (t₀ t l₀ l p₀ p q₀ q : List ℕ) → n ≡ length rs → Table rs t₀ t l₀ l p₀ p q₀ q → rows n t l p q ≡ rowsOf 0 rs
-table-of n rs t₀ t l₀ l p₀ p q₀ q e k = rw (e, k .tags-are, k .levels-are, k .places-are, k .lengths-are) (table-rows 0 rs _ _ _ _)
-
-pub length-places : (at : ℕ) (rs : List Rec) → length (placesFrom at rs) ≡ length rs
-unfolding placesFrom
-length-places at [] = refl
-length-places at (r ∷ rs) = ap suc (length-places (at + size r) rs)
+pub table-of : (n : ℕ) (rs : List Rec) (k₀ k : Lists) → n ≡ length rs → k ≡ tabled rs k₀ → rowsIn n k ≡ rowsOf 0 rs
+table-of n rs k₀ k e w =
+    ap₂ rowsIn e w ∙ table-rows 0 rs _ _ _ _
 
 pub longer : (vs x x′ : List ℕ) → x′ ≡ written vs x → length vs ≤ length x′
 longer vs x x′ e = omega (arith, ap length e, length-append vs (drop (length vs) x))
@@ -80,27 +77,15 @@ module _ (s : List ℕ) where
 
 -- ---- what was packed
 
-pub length-rows : (n : ℕ) (t l p q : List ℕ) → length (rows n t l p q) ≡ n
+-- what was packed, column by column (the levels: packed-levels)
+pub packed-columns : (bytes : List ℕ) (n : ℕ) (t l p q : List ℕ) → n ≤ length t → n ≤ length q → Inside (length bytes) (rows n t l p q)
+    → (map tagOf (records bytes (rows n t l p q)) ≡ take n t) × (map lengthOf (records bytes (rows n t l p q)) ≡ take n q)
 unfolding rows
-length-rows zero t l p q = refl
-length-rows (suc n) t l p q = ap suc (length-rows n (drop 1 t) (drop 1 l) (drop 1 p) (drop 1 q))
-
-one-more : (n : ℕ) (t : List ℕ) → suc n ≤ length t → getD t 0 0 ∷ take n (drop 1 t) ≡ take (suc n) t
-one-more n [] h = absurd (omega arith)
-one-more n (x ∷ t) h = refl
-
--- what was packed, column by column
-pub packed-columns : (bytes : List ℕ) (n : ℕ) (t l p q : List ℕ) → n ≤ length t → n ≤ length l → n ≤ length q → Inside (length bytes) (rows n t l p q)
-    → (map tagOf (records bytes (rows n t l p q)) ≡ take n t) × (map levelOf (records bytes (rows n t l p q)) ≡ take n l)
-    × (map lengthOf (records bytes (rows n t l p q)) ≡ take n q)
-unfolding rows
-packed-columns bytes zero t l p q ht hl hq i = (refl, refl, refl)
-packed-columns bytes (suc n) t l p q ht hl hq i =
-    let less : (x : List ℕ) → suc n ≤ length x → n ≤ length (drop 1 x) = λ x h. omega (arith, length-drop 1 x) in
-    let k = packed-columns bytes n (drop 1 t) (drop 1 l) (drop 1 p) (drop 1 q) (less t ht) (less l hl) (less q hq) (i .1) in (
+packed-columns bytes zero t l p q ht hq i = (refl, refl)
+packed-columns bytes (suc n) t l p q ht hq i =
+    let k = packed-columns bytes n (drop 1 t) (drop 1 l) (drop 1 p) (drop 1 q) (omega (arith, length-drop 1 t)) (omega (arith, length-drop 1 q)) (i .1) in (
       ap (λ (x : List ℕ). getD t 0 0 ∷ x) (k .0) ∙ one-more n t ht,
-      ap (λ (x : List ℕ). getD l 0 0 ∷ x) (k .1) ∙ one-more n l hl,
-      ap₂ (λ (m : ℕ) (x : List ℕ). m ∷ x) (length-part bytes (getD p 0 0) (getD q 0 0) (i .0)) (k .2) ∙ one-more n q hq,
+      ap₂ (λ (m : ℕ) (x : List ℕ). m ∷ x) (length-part bytes (getD p 0 0) (getD q 0 0) (i .0)) (k .1) ∙ one-more n q hq,
     )
 
 -- the records of sound rows keep the tag and level rules

@@ -1,25 +1,39 @@
 -- The rows of a table: one after the other, and what an acceptance says of each. Assumes nothing.
-use Prim.Native.Nat.{ℕ, suc, _+_, _-_, _≤_, _<_, min}
+use Prim.Native.Nat.{ℕ, zero, suc, _+_, _-_, _≤_, _<_, min}
 use native.Mathlib.Omega.{arith}
 use native.Mathlib.Decide.{decLe}
 use native.Mathlib.Nat.{lt-of-not-le, add-zero}
-use mathlib.Core.Path.{_≡_, refl, sym, _∙_, subst}
+use mathlib.Core.Path.{_≡_, refl, sym, ap, _∙_, subst}
 use mathlib.Core.Bool.{Bool, true, false, cond, not}
-use mathlib.Core.List.{List, [], _∷_}
-use lib.Dec.{T, ltb, nltb→le}
-use lib.ListN.{length, getD, drop}
+use mathlib.Core.List.{List, [], _∷_, map}
+use lib.Dec.{T, ltb, eqb, nltb→le}
+use lib.ListN.{length, getD, take, drop, length-drop}
 use lib.Seq.{getD-drop, drop-drop}
 use borrow.Author.Tests.{lt-ltb, le-ltb}
 use Rattle.records.specs.declared.fault.Fault.{Fault}
 use Rattle.records.specs.declared.fault.Fault.the-variants as F
 use Rattle.records.specs.Records.{limit, leadOf, size}
+use Rattle.records.specs.Table.{levelOf, Lists, roomIn}
 use Rattle.records.proofs.HeaderLaws.{length-part}
-use Rattle.pack.specs.Rows.{Row, rowOf, rows, pointed}
-use Rattle.pack.specs.Packing.{refusedAt, verdict, rowByRow, closing, SoundRow}
+use Rattle.pack.specs.Rows.{Row, rowOf, rows, pointed, records}
+use Rattle.pack.specs.Packing.{refusedAt, firstOf, numbersVerdict, parentVerdict, bodyVerdict, verdict, rowByRow, closing, SoundRow}
 use Rattle.pack.specs.declared.judge.Verdict.{Verdict}
 use Rattle.pack.specs.declared.judge.Verdict.the-variants as Ver
 use Rattle.pack.specs.declared.judge.Packed.{Packed}
 use Rattle.pack.specs.declared.judge.Packed.the-variants as P
+
+-- ---- as many rows as each list has entries
+
+pub record Listed (n : ℕ) (k : Lists) : Type 0 where
+  pub in-tags : n ≤ length (k .tags)
+  pub in-levels : n ≤ length (k .levels)
+  pub in-places : n ≤ length (k .places)
+  pub in-lengths : n ≤ length (k .lengths)
+  pub in-parents : n ≤ length (k .parents)
+
+pub listed-in : (n : ℕ) (k : Lists) → n ≤ roomIn k → Listed n k
+listed-in n k h =
+    record { in-tags = omega arith; in-levels = omega arith; in-places = omega arith; in-lengths = omega arith; in-parents = omega arith }
 
 -- ---- the rows from an index on
 
@@ -35,67 +49,96 @@ module _ (n : ℕ) (t l p q : List ℕ) where
   unfolding rows
   from-end i h = let e : n - i ≡ 0 = omega arith in rw e
 
+pub length-rows : (n : ℕ) (t l p q : List ℕ) → length (rows n t l p q) ≡ n
+unfolding rows
+length-rows zero t l p q = refl
+length-rows (suc n) t l p q = ap suc (length-rows n (drop 1 t) (drop 1 l) (drop 1 p) (drop 1 q))
+
+pub one-more : (n : ℕ) (t : List ℕ) → suc n ≤ length t → getD t 0 0 ∷ take n (drop 1 t) ≡ take (suc n) t
+one-more n [] h = absurd (omega arith)
+one-more n (x ∷ t) h = refl
+
+-- the levels of the records that rows point to
+pub packed-levels : (bytes : List ℕ) (n : ℕ) (t l p q : List ℕ) → n ≤ length l → map levelOf (records bytes (rows n t l p q)) ≡ take n l
+unfolding rows
+packed-levels bytes zero t l p q h = refl
+packed-levels bytes (suc n) t l p q h =
+    ap (λ (x : List ℕ). getD l 0 0 ∷ x) (packed-levels bytes n (drop 1 t) (drop 1 l) (drop 1 p) (drop 1 q) (omega (arith, length-drop 1 l))) ∙ one-more n l h
+
 -- ---- one row
+
+both-sound : (a b : Verdict) → firstOf a b ≡ Ver.Sound → (a ≡ Ver.Sound) × (b ≡ Ver.Sound)
+both-sound Ver.Sound b e = (refl, e)
+both-sound (Ver.Faulty f) b e = absurd (let z : _≡_ {A = ℕ} 0 1 = cc in omega arith)
 
 by-cond : (A : Verdict → Type 0) (b : Bool) (x y : Verdict) → (T b → A x) → (T (not b) → A y) → A (cond b x y)
 by-cond A true x y f g = f tt
 by-cond A false x y f g = g tt
 
-abbrev SoundIf : ℕ → ℕ → Row → Verdict → Type 0
-SoundIf cap lent r Ver.Sound = SoundRow cap lent r
-SoundIf cap lent r (Ver.Faulty f) = Unit {0}
+-- what holds where a verdict is sound
+abbrev If : Type 0 → Verdict → Type 0
+If A Ver.Sound = A
+If A (Ver.Faulty f) = Unit {0}
 
-sound-if : (cap lent : ℕ) (r : Row) → SoundIf cap lent r (verdict cap lent r)
-unfolding verdict
-sound-if cap lent r =
-    let A = SoundIf cap lent r in
-    by-cond A (ltb (r .tag) 16) _ _ (λ _. tt)
+numbers-if : (cap tag level : ℕ) → If ((16 ≤ tag) × (tag ≤ 1023) × (level ≤ cap) × (level ≤ 1023)) (numbersVerdict cap tag level)
+unfolding numbersVerdict
+numbers-if cap tag level =
+    let A = If ((16 ≤ tag) × (tag ≤ 1023) × (level ≤ cap) × (level ≤ 1023)) in
+    by-cond A (ltb tag 16) _ _ (λ _. tt)
     (λ a.
-    by-cond A (ltb 1023 (r .tag)) _ _ (λ _. tt)
+    by-cond A (ltb 1023 tag) _ _ (λ _. tt)
     (λ b.
-    by-cond A (ltb cap (r .level)) _ _ (λ _. tt)
-    (λ c.
-    by-cond A (ltb 1023 (r .level)) _ _ (λ _. tt)
-    (λ d.
-    by-cond A (ltb lent (r .place + r .len)) _ _ (λ _. tt)
-    (λ e.
-    record {
-      tag-low = nltb→le _ _ a;
-      tag-high = nltb→le _ _ b;
-      level-cap = nltb→le _ _ c;
-      level-high = nltb→le _ _ d;
-      inside = nltb→le _ _ e;
-    })))))
+    by-cond A (ltb cap level) _ _ (λ _. tt)
+    (λ c. by-cond A (ltb 1023 level) _ _ (λ _. tt) (λ d. (nltb→le _ _ a, nltb→le _ _ b, nltb→le _ _ c, nltb→le _ _ d)))))
 
-pub sound : (cap lent : ℕ) (r : Row) → verdict cap lent r ≡ Ver.Sound → SoundRow cap lent r
-sound cap lent r e = subst (SoundIf cap lent r) e (sound-if cap lent r)
+parent-if : (right : Bool) → If (T right) (parentVerdict right)
+unfolding parentVerdict
+parent-if right = by-cond (If (T right)) right _ _ (λ g. g) (λ _. tt)
 
-pub sound-verdict : (cap lent : ℕ) (r : Row) → SoundRow cap lent r → verdict cap lent r ≡ Ver.Sound
+body-if : (lent end : ℕ) → If (end ≤ lent) (bodyVerdict lent end)
+unfolding bodyVerdict
+body-if lent end = by-cond (If (end ≤ lent)) (ltb lent end) _ _ (λ _. tt) (λ e. nltb→le _ _ e)
+
+pub sound : (cap : ℕ) (right : Bool) (lent : ℕ) (r : Row) → verdict cap right lent r ≡ Ver.Sound → SoundRow cap lent r × T right
 unfolding verdict
-sound-verdict cap lent r s =
+sound cap right lent r e =
+    let below = firstOf (parentVerdict right) (bodyVerdict lent (r .place + r .len)) in
+    let x = both-sound (numbersVerdict cap (r .tag) (r .level)) below e in
+    let y = both-sound (parentVerdict right) (bodyVerdict lent (r .place + r .len)) (x .1) in
+    let n : (16 ≤ r .tag) × (r .tag ≤ 1023) × (r .level ≤ cap) × (r .level ≤ 1023) = subst (If _) (x .0) (numbers-if cap (r .tag) (r .level)) in (
+      record { tag-low = n .0; tag-high = n .1; level-cap = n .2; level-high = n .3; inside = subst (If _) (y .1) (body-if lent (r .place + r .len)) },
+      subst (If _) (y .0) (parent-if right),
+    )
+
+pub sound-verdict : (cap : ℕ) (right : Bool) (lent : ℕ) (r : Row) → SoundRow cap lent r → right ≡ true → verdict cap right lent r ≡ Ver.Sound
+unfolding verdict numbersVerdict parentVerdict bodyVerdict
+sound-verdict cap right lent r s g =
     simp (
       le-ltb (r .tag) 16 (s .tag-low),
       le-ltb 1023 (r .tag) (s .tag-high),
       le-ltb cap (r .level) (s .level-cap),
       le-ltb 1023 (r .level) (s .level-high),
+      g,
       le-ltb lent (r .place + r .len) (s .inside),
     )
 
 -- ---- row by row
 
-pub row-next : (lent i cap : ℕ) (r : Row) (rs : List Row) (after : Packed) → verdict cap lent r ≡ Ver.Sound
-    → rowByRow lent i cap (r ∷ rs) after ≡ rowByRow lent (i + 1) (r .level + 1) rs after
-unfolding rowByRow
-row-next lent i cap r rs after e = rw (e, rowByRow)
+module _ (lent i cap : ℕ) where
+  module _ (r : Row) (rs : List Row) (given has : List ℕ) (after : Packed) where
+    pub row-next : verdict cap (eqb (getD given 0 0) (getD has 0 0)) lent r ≡ Ver.Sound
+        → rowByRow lent i cap (r ∷ rs) given has after ≡ rowByRow lent (i + 1) (r .level + 1) rs (drop 1 given) (drop 1 has) after
+    unfolding rowByRow
+    row-next e = rw (e, rowByRow)
 
-pub row-stop : (lent i cap : ℕ) (r : Row) (rs : List Row) (after : Packed) (f : Fault) → verdict cap lent r ≡ Ver.Faulty f
-    → rowByRow lent i cap (r ∷ rs) after ≡ refusedAt f i
-unfolding rowByRow
-row-stop lent i cap r rs after f e = rw (e, rowByRow)
+    pub row-stop : (f : Fault) → verdict cap (eqb (getD given 0 0) (getD has 0 0)) lent r ≡ Ver.Faulty f
+        → rowByRow lent i cap (r ∷ rs) given has after ≡ refusedAt f i
+    unfolding rowByRow
+    row-stop f e = rw (e, rowByRow)
 
-pub row-end : (lent i cap : ℕ) (after : Packed) → rowByRow lent i cap [] after ≡ after
-unfolding rowByRow
-row-end lent i cap after = refl
+  pub row-end : (given has : List ℕ) (after : Packed) → rowByRow lent i cap [] given has after ≡ after
+  unfolding rowByRow
+  row-end given has after = refl
 
 -- ---- 1 and 26
 

@@ -4,13 +4,14 @@ use numbers::wide;
 use records::Fault;
 use records::Offset;
 use records::bits;
+use records::right_parents;
 ghost use mathlib.Core.Path.{_≡_};
 ghost use Prim.Native.Nat.{_+_, _≤_, _<_, min};
 ghost use Rattle.records.specs.Answers.{placeBits, hostForm};
 ghost use Rattle.records.specs.Records.{leadOf};
-ghost use Rattle.records.specs.Table.{shortest};
+ghost use Rattle.records.specs.Table.{lists, roomIn};
 ghost use Rattle.pack.specs.Rows.{rows, rowOf};
-ghost use Rattle.pack.specs.Packing.{number, place, verdict, closing, rowsAnswer, packAnswer};
+ghost use Rattle.pack.specs.Packing.{number, place, firstOf, numbersVerdict, parentVerdict, bodyVerdict, verdict, closing, rowsAnswer, packAnswer};
 
 // A record's index in the table.
 pub struct Index(pub usize);
@@ -39,11 +40,19 @@ pub enum Verdict {
     Faulty(Fault),
 }
 
-// Widens to an index or a length.
-// A row whose level may be at most cap, over `lent` bytes: 5, 6, 4.
-fn row(tag: u32, level: u32, place: Offset, len: usize, cap: u32, lent: usize) -> Verdict
-    requires { ⌜ (place .0 < 4294967296) × (len < 4294967296) ⌝ }
-    ensures { λ r. ⌜ r ≡ verdict cap lent (rowOf tag level (place .0) len) ⌝ }
+// The first of two faults.
+fn first_of(a: Verdict, b: Verdict) -> Verdict
+    ensures { λ r. ⌜ r ≡ firstOf a b ⌝ }
+{
+    match a {
+        Verdict::Sound => b,
+        Verdict::Faulty(fault) => Verdict::Faulty(fault),
+    }
+}
+
+// A tag and a level, which may be at most cap: 5, 6.
+fn numbers(tag: u32, level: u32, cap: u32) -> Verdict
+    ensures { λ r. ⌜ r ≡ numbersVerdict cap tag level ⌝ }
 {
     if tag < 16 {
         return Verdict::Faulty(Fault::TagOutside);
@@ -57,10 +66,48 @@ fn row(tag: u32, level: u32, place: Offset, len: usize, cap: u32, lent: usize) -
     if 1023 < level {
         return Verdict::Faulty(Fault::LevelRule);
     }
-    if lent < place.0 + len {
-        return Verdict::Faulty(Fault::BodyPastEnd);
-    }
     Verdict::Sound
+}
+
+// A parent that is the right one or not: 28.
+fn parent(right: bool) -> Verdict
+    ensures { λ r. ⌜ r ≡ parentVerdict right ⌝ }
+{
+    if right {
+        Verdict::Sound
+    } else {
+        Verdict::Faulty(Fault::ParentWrong)
+    }
+}
+
+// A body that ends so far into `lent` bytes: 4.
+fn body(end: usize, lent: usize) -> Verdict
+    ensures { λ r. ⌜ r ≡ bodyVerdict lent end ⌝ }
+{
+    if lent < end {
+        Verdict::Faulty(Fault::BodyPastEnd)
+    } else {
+        Verdict::Sound
+    }
+}
+
+// A row whose level may be at most cap, with the right parent or not, over `lent` bytes: 5, 6, 28, 4.
+fn row(
+    tag: u32,
+    level: u32,
+    place: Offset,
+    len: usize,
+    cap: u32,
+    right: bool,
+    lent: usize,
+) -> Verdict
+    requires { ⌜ (place .0 < 4294967296) × (len < 4294967296) ⌝ }
+    ensures { λ r. ⌜ r ≡ verdict cap right lent (rowOf tag level (place .0) len) ⌝ }
+{
+    let of_numbers = numbers(tag, level, cap);
+    let of_parent = parent(right);
+    let of_body = body(place.0 + len, lent);
+    first_of(of_numbers, first_of(of_parent, of_body))
 }
 
 // A total with one more record; what is over the limit stays one over it, so that no sum of overlapping bodies wraps.
@@ -91,19 +138,21 @@ fn close(total: usize, room: usize) -> Packed
     Packed::Length(total)
 }
 
-// The rows of lists that are long enough: 5, 6, 4 of each, then 1 and 26.
+// The rows of lists that are long enough: 5, 6, 28, 4 of each, then 1 and 26.
 fn judge_rows(
     count: usize,
     tags: &[u32],
     levels: &[u32],
     places: &[u32],
     lengths: &[u32],
+    parents: &[u32],
     bytes: &[u8],
     room: usize,
 ) -> Packed
-    requires { ⌜ count ≤ shortest (now tags) (now levels) (now places) (now lengths) ⌝ }
-    ensures { λ r. ⌜ r ≡ rowsAnswer (now (bytes .entry)) room (rows count (now (tags .entry)) (now (levels .entry)) (now (places .entry)) (now (lengths .entry))) ⌝ }
+    requires { ⌜ count ≤ roomIn (lists (now tags) (now levels) (now places) (now lengths) (now parents)) ⌝ }
+    ensures { λ r. ⌜ r ≡ rowsAnswer (now (bytes .entry)) room (rows count (now (tags .entry)) (now (levels .entry)) (now (places .entry)) (now (lengths .entry))) (now (parents .entry)) ⌝ }
 {
+    let right = right_parents(count, levels, parents);
     let mut i: usize = 0;
     let mut cap: u32 = 0;
     let mut total: usize = 0;
@@ -111,7 +160,7 @@ fn judge_rows(
         let level = levels[i];
         let len = wide(lengths[i]);
         let place = Offset(wide(places[i]));
-        match row(tags[i], level, place, len, cap, bytes.len()) {
+        match row(tags[i], level, place, len, cap, i < right, bytes.len()) {
             Verdict::Sound => {
                 cap = level + 1;
                 total = grown(total, len);
@@ -135,16 +184,17 @@ pub fn judge(
     levels: &[u32],
     places: &[u32],
     lengths: &[u32],
+    parents: &[u32],
     bytes: &[u8],
     room: usize,
 ) -> Packed
-    ensures { λ r. ⌜ r ≡ packAnswer count (now (tags .entry)) (now (levels .entry)) (now (places .entry)) (now (lengths .entry)) (now (bytes .entry)) room ⌝ }
+    ensures { λ r. ⌜ r ≡ packAnswer count (lists (now (tags .entry)) (now (levels .entry)) (now (places .entry)) (now (lengths .entry)) (now (parents .entry))) (now (bytes .entry)) room ⌝ }
 {
-    if records::room(tags, levels, places, lengths) < count {
+    if records::room(tags, levels, places, lengths, parents) < count {
         return Packed::Refused {
             fault: Fault::ListTooShort,
             index: Index(0),
         };
     }
-    judge_rows(count, tags, levels, places, lengths, bytes, room)
+    judge_rows(count, tags, levels, places, lengths, parents, bytes, room)
 }

@@ -7,7 +7,7 @@ ghost use mathlib.Core.Path.{_≡_};
 ghost use Prim.Native.Nat.{_≤_};
 ghost use lib.ListN.{length};
 ghost use Rattle.records.specs.Records.{encode};
-ghost use Rattle.records.specs.Table.{shortest, written};
+ghost use Rattle.records.specs.Table.{lists, shortest, written};
 ghost use Rattle.pack.specs.Rows.{rows, records, Inside};
 ghost use Rattle.pack.specs.Promise.{Packs};
 
@@ -44,12 +44,22 @@ pub fn pack(
     levels: &[u32],
     places: &[u32],
     lengths: &[u32],
+    parents: &[u32],
     bytes: &[u8],
     out: &mut [u8],
 ) -> Packed
-    ensures { λ r. ⌜ Packs count (now (tags .entry)) (now (levels .entry)) (now (places .entry)) (now (lengths .entry)) (now (bytes .entry)) (now (out .entry)) r (now (out .exit)) ⌝ }
+    ensures { λ r. ⌜ Packs count (lists (now (tags .entry)) (now (levels .entry)) (now (places .entry)) (now (lengths .entry)) (now (parents .entry))) (now (bytes .entry)) (now (out .entry)) r (now (out .exit)) ⌝ }
 {
-    let answer = judge(count, tags, levels, places, lengths, bytes, out.len());
+    let answer = judge(
+        count,
+        tags,
+        levels,
+        places,
+        lengths,
+        parents,
+        bytes,
+        out.len(),
+    );
     if let Packed::Length(_) = answer {
         lay(count, tags, levels, places, lengths, bytes, out);
     }

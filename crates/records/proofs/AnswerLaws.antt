@@ -72,6 +72,7 @@ fault-number F.MarksInParagraph = (omega arith, omega arith)
 fault-number F.SheetTooLong = (omega arith, omega arith)
 fault-number F.BufferTooShort = (omega arith, omega arith)
 fault-number F.ListTooShort = (omega arith, omega arith)
+fault-number F.ParentWrong = (omega arith, omega arith)
 
 pub answer-number : (a : Answer) → number a < 256
 answer-number (A.Accepted n) = omega arith

@@ -2,6 +2,8 @@ pub mod AnswerLaws
 pub mod HeaderLaws
 pub mod ReadingLaws
 pub mod ScanLaws
-pub mod TableLaws
 pub mod ParentLaws
+pub mod ClimbLaws
+pub mod ColumnLaws
+pub mod TableLaws
 pub mod Reader

@@ -1,7 +1,7 @@
 -- The reader's statements (document 01, demand 2; document 02, A12): read accepts a stream, given room, exactly when the stream is the encoding
 -- of a list of records that obeys the tag and level rules, and the table is that list; where read refuses, the stream is wrong in that way
 -- and at that place. Assumes nothing.
-use Prim.Native.Nat.{ℕ, _+_, _≤_}
+use Prim.Native.Nat.{ℕ, _+_, _/_, _≤_}
 use native.Mathlib.Omega.{arith}
 use mathlib.Core.Path.{_≡_, refl, sym, ap, _∙_, subst}
 use mathlib.Core.Bool.{Bool, true, false, cond}
@@ -20,7 +20,7 @@ use Rattle.records.specs.declared.fault.Fault.the-variants as F
 use Rattle.records.specs.declared.fault.Refusal.{Refusal}
 use Rattle.records.specs.declared.fault.Answer.the-variants as A
 use Rattle.records.proofs.ReadingLaws.{read-encode, Left, reads, encode-read}
-use Rattle.records.proofs.ScanLaws.{accepted, accepts}
+use Rattle.records.proofs.ScanLaws.{accepted, accepts, records-bytes}
 
 -- s is a stream of the records rs, n of them, within the limit and the room
 pub record IsStream (s : List ℕ) (room n : ℕ) (rs : List Rec) : Type 0 where
@@ -94,3 +94,19 @@ module _ (s : List ℕ) (room : ℕ) where
   cut-at-the-end f (too-long h) n = absurd (omega arith)
   cut-at-the-end f (wrong rs rest g l e a) n = cut-front rs (capBehind 0 rs) rest g e a n
   cut-at-the-end f (full rs e h) n = absurd (omega arith)
+
+-- 7 is not given where each list has an entry for every four bytes of the stream
+module _ (s : List ℕ) (room : ℕ) (enough : length s / 4 ≤ room) where
+  front-other : (cap : ℕ) (rest : List ℕ) (f : Refusal) → AtFront cap rest f → numberOf (f .fault) ≡ 7 → ⊥
+  front-other cap rest f (cut h) n = omega arith
+  front-other cap rest f (long-cut z h) n = omega arith
+  front-other cap rest f (small z k h) n = omega arith
+  front-other cap rest f (past z h) n = omega arith
+  front-other cap rest f (long-past z h) n = omega arith
+  front-other cap rest f (reserved h) n = omega arith
+  front-other cap rest f (deep h) n = omega arith
+
+  pub enough-room : (f : Refusal) → Refuses s room f → numberOf (f .fault) ≡ 7 → ⊥
+  enough-room f (too-long h) n = omega arith
+  enough-room f (wrong rs rest g l e a) n = front-other (capBehind 0 rs) rest g a n
+  enough-room f (full rs e h) n = omega (arith, records-bytes rs, ap length (e .stream))

@@ -34,6 +34,7 @@ numberOf F.MarksInParagraph = 24
 numberOf F.SheetTooLong = 25
 numberOf F.BufferTooShort = 26
 numberOf F.ListTooShort = 27
+numberOf F.ParentWrong = 28
 
 -- a fault and where: at a byte place
 abbrev pub refusal : Fault → ℕ → Refusal

@@ -5,4 +5,5 @@ pub mod Answers
 pub mod Reading
 pub mod Stopping
 pub mod Table
+pub mod Climbing
 pub mod Promise

@@ -5,6 +5,7 @@ use mathlib.Core.Path.{_≡_}
 use mathlib.Core.Bool.{Bool, true, false, cond}
 use mathlib.Core.List.{List, [], _∷_, _++_}
 use lib.Dec.{ltb, eqb}
+use lib.ListN.{length}
 use Rattle.records.specs.Records.{Rec}
 
 -- no record has the tag
@@ -36,6 +37,15 @@ pub data WithParent (p : Rec) (before : List Rec) : (earlier rs ks : List Rec) �
 unfoldable pub parentOf : ℕ → List Rec → List Rec
 parentOf level [] = []
 parentOf level (p ∷ before) = cond (ltb (p .level) level) (p ∷ before) (parentOf level before)
+
+-- the index of that parent, records counted from 0; the record's own where it has none (document 02, A6). Of records that keep the level rule
+-- only those at level 0 have none: `parents-exactly` in proofs/ColumnLaws.antt
+abbrev pub indexOr : ℕ → List Rec → ℕ
+indexOr own [] = own
+indexOr own (p ∷ before) = length before
+
+unfoldable pub parentIndex : ℕ → List Rec → ℕ
+parentIndex level earlier = indexOr (length earlier) (parentOf level earlier)
 
 -- an element before a list where the test holds
 unfoldable pub keepIf : {A : Type 0} → Bool → A → List A → List A

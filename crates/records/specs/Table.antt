@@ -1,4 +1,4 @@
--- What read answers, and the table it writes (document 01, 'Read writes ..' and 'Order').
+-- What read answers, and the table it writes (document 01, 'Read writes ..' and 'Order'; document 02, A6).
 use Prim.Native.Nat.{ℕ, _+_, min}
 use mathlib.Core.Path.{_≡_}
 use mathlib.Core.Bool.{cond}
@@ -7,6 +7,7 @@ use mathlib.Core.List.{List, [], _∷_, _++_, map}
 use lib.Dec.{ltb, leb}
 use lib.ListN.{length, take, drop}
 use Rattle.records.specs.Records.{Rec, limit, encode, leadOf, size}
+use Rattle.records.specs.Parents.{Parent, parentIndex}
 use Rattle.records.specs.Answers.{further, refusedAt}
 use Rattle.records.specs.Reading.{Read, readAll}
 use Rattle.records.specs.declared.fault.Fault.the-variants as F
@@ -46,7 +47,8 @@ abbrev pub entered : Answer → List Rec → List Rec
 entered (A.Accepted n) rs = rs
 entered (A.Refused r) rs = []
 
--- the four columns: tag, level, body place (the first record's header stands at `at`) and body length
+-- the five columns: tag, level, body place (the first record's header stands at `at`), body length, and the parent's index (the first record
+-- stands behind the records `earlier`, the nearest first)
 abbrev pub tagOf : Rec → ℕ
 tagOf r = r .tag
 
@@ -60,17 +62,51 @@ unfoldable pub placesFrom : ℕ → List Rec → List ℕ
 placesFrom at [] = []
 placesFrom at (r ∷ rs) = (at + leadOf (length (r .body))) ∷ placesFrom (at + size r) rs
 
+unfoldable pub parentsFrom : List Rec → List Rec → List ℕ
+parentsFrom earlier [] = []
+parentsFrom earlier (r ∷ rs) = parentIndex (r .level) earlier ∷ parentsFrom (r ∷ earlier) rs
+
+-- what the fifth column says, without a search: a record at level 0 carries its own index, every other that of its parent (document 02, A6).
+-- Of records that keep the level rule the column is the list of which this holds: `parents-exactly` in proofs/ColumnLaws.antt
+pub data Carries (level : ℕ) (earlier : List Rec) : ℕ → Type 0 where
+  own : level ≡ 0 → Carries level earlier (length earlier)
+  parent's : (p : Rec) (before : List Rec) → Parent level earlier p before → Carries level earlier (length before)
+
+abbrev pub Carried : List Rec → List Rec → List ℕ → Type 0
+Carried earlier [] [] = Unit {0}
+Carried earlier [] (n ∷ ns) = ⊥
+Carried earlier (r ∷ rs) [] = ⊥
+Carried earlier (r ∷ rs) (n ∷ ns) = Carries (r .level) earlier n × Carried (r ∷ earlier) rs ns
+
 -- a list with vs written from its front; what stands behind them stays
 abbrev pub written : List ℕ → List ℕ → List ℕ
 written vs l = vs ++ drop (length vs) l
 
--- the four lists after the table of rs was written into them
-pub record Table (rs : List Rec) (tags tags′ levels levels′ places places′ lengths lengths′ : List ℕ) : Type 0 where
-  pub tags-are : tags′ ≡ written (map tagOf rs) tags
-  pub levels-are : levels′ ≡ written (map levelOf rs) levels
-  pub places-are : places′ ≡ written (placesFrom 0 rs) places
-  pub lengths-are : lengths′ ≡ written (map lengthOf rs) lengths
+-- the five lent lists
+pub record Lists : Type 0 where
+  pub tags : List ℕ
+  pub levels : List ℕ
+  pub places : List ℕ
+  pub lengths : List ℕ
+  pub parents : List ℕ
 
--- room is the shortest list
+abbrev pub lists : List ℕ → List ℕ → List ℕ → List ℕ → List ℕ → Lists
+lists t l p n q = record { tags = t; levels = l; places = p; lengths = n; parents = q }
+
+-- the lists after the table of rs was written into them
+abbrev pub tabled : List Rec → Lists → Lists
+tabled rs k =
+    lists (written (map tagOf rs) (k .tags)) (written (map levelOf rs) (k .levels)) (written (placesFrom 0 rs) (k .places))
+    (written (map lengthOf rs) (k .lengths)) (written (parentsFrom [] rs) (k .parents))
+
+-- the shortest of four lists
 abbrev pub shortest : List ℕ → List ℕ → List ℕ → List ℕ → ℕ
 shortest a b c d = min (min (length a) (length b)) (min (length c) (length d))
+
+-- room is the shortest of the five
+abbrev pub roomIn : Lists → ℕ
+roomIn k = min (shortest (k .tags) (k .levels) (k .places) (k .lengths)) (length (k .parents))
+
+-- the records that have room, of a stream within the limit: all of a stream that read accepts (`fitting-all` in proofs/TableLaws.antt)
+unfoldable pub fitting : List ℕ → ℕ → List Rec
+fitting s room = cond (ltb limit (length s)) [] (take room (readAll s .recs))

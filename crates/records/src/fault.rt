@@ -34,6 +34,7 @@ pub enum Fault {
     SheetTooLong,
     BufferTooShort,
     ListTooShort,
+    ParentWrong,
 }
 
 // A fault, and the place that document 01 gives with it.
@@ -80,6 +81,7 @@ impl Fault {
             Fault::SheetTooLong => 25,
             Fault::BufferTooShort => 26,
             Fault::ListTooShort => 27,
+            Fault::ParentWrong => 28,
         }
     }
 }

@@ -2,6 +2,7 @@
 mod fault;
 mod header;
 mod kind;
+mod parents;
 mod table;
 
 pub use fault::Answer;
@@ -14,6 +15,7 @@ pub use header::Ahead;
 pub use header::Record;
 pub use header::record_at;
 pub use kind::Kind;
-pub use table::read;
+pub use parents::right_parents;
+pub use table::enter;
 pub use table::room;
 pub use table::scan;

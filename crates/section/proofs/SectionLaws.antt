@@ -117,9 +117,3 @@ module _ (s : List ℕ) (room : ℕ) (x : Answer) (is : x ≡ readAnswer s room)
 pub section-accepted : (s : List ℕ) (room n : ℕ) → sectionAnswer s room ≡ A.Accepted n → readAnswer s room ≡ A.Accepted n
 unfolding sectionAnswer
 section-accepted s room n e = judged-accepted (readAnswer s room) (sectionFault (readAll s .recs)) n e .0
-
--- where the section is accepted, its answer is read's
-pub section-read : (s : List ℕ) (room n : ℕ) (x y : Answer) → x ≡ sectionAnswer s room → x ≡ A.Accepted n → y ≡ readAnswer s room → y ≡ sectionAnswer s room
-section-read s room n x y is e q =
-    let a : sectionAnswer s room ≡ A.Accepted n = sym is ∙ e in
-    q ∙ section-accepted s room n a ∙ sym a

@@ -5,5 +5,5 @@ mod rules;
 pub use parents::Seat;
 pub use parents::Stray;
 pub use parents::find_stray;
+pub use rules::answer_within;
 pub use rules::check;
-pub use rules::read_section;

@@ -1,4 +1,4 @@
-// Check and the section read. Two passes over the headers, rule 9 and the paragraphs, follow read's own; each text is walked once, and
+// What check and the section read answer. Two passes over the headers, rule 9 and the paragraphs, follow read's own; each text is walked once, and
 // once more where it has extended controls. A paragraph's children are looked for from its header to its last descendant, so that
 // records in nested paragraphs are passed once for each paragraph around them.
 use crate::parents::Stray;
@@ -11,17 +11,14 @@ use records::Answer;
 use records::Fault;
 use records::Kind;
 use records::Offset;
-use records::read;
 use records::record_at;
 use records::refused;
-use records::room;
 use records::scan;
 ghost use mathlib.Core.Path.{_≡_};
 ghost use mathlib.Core.List.{[]};
 ghost use lib.ListN.{drop};
 ghost use Rattle.records.specs.Reading.{readAll};
 ghost use Rattle.records.specs.Table.{settled};
-ghost use Rattle.records.specs.Promise.{Promised};
 ghost use Rattle.paragraph.specs.Stream.{recordsIn};
 ghost use Rattle.section.specs.Parents.{strayFrom};
 ghost use Rattle.section.specs.Section.{findingOf, paragraphsFault, strayOr, sectionAnswer, checkAnswer};
@@ -63,7 +60,7 @@ fn judge_section(s: &[u8], n: usize) -> Answer
 }
 
 // What the section read answers where the shortest list has `room` entries.
-fn answer_within(s: &[u8], room: usize) -> Answer
+pub fn answer_within(s: &[u8], room: usize) -> Answer
     ensures { λ r. ⌜ r ≡ sectionAnswer (now (s .entry)) room ⌝ }
 {
     match scan(s, room) {
@@ -77,20 +74,4 @@ pub fn check(s: &[u8]) -> Answer
     ensures { λ r. ⌜ r ≡ checkAnswer (now (s .entry)) ⌝ }
 {
     answer_within(s, s.len())
-}
-
-// Reads a section's records into four lists, as read does, where the section keeps its rules. A refusal changes no entry.
-pub fn read_section(
-    s: &[u8],
-    tags: &mut [u32],
-    levels: &mut [u32],
-    places: &mut [u32],
-    lengths: &mut [u32],
-) -> Answer
-    ensures { λ r. ⌜ Promised sectionAnswer (now (s .entry)) (now (tags .entry)) (now (levels .entry)) (now (places .entry)) (now (lengths .entry)) r (now (tags .exit)) (now (levels .exit)) (now (places .exit)) (now (lengths .exit)) ⌝ }
-{
-    match answer_within(s, room(tags, levels, places, lengths)) {
-        Answer::Accepted(_) => read(s, tags, levels, places, lengths),
-        Answer::Refused(r) => Answer::Refused(r),
-    }
 }

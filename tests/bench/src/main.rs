@@ -38,26 +38,39 @@ fn line(name: &str, length: usize, times: &Times) {
     );
 }
 
-fn say_records(name: &str, stream: &[u8]) {
+/// Says what records a stream has, and gives how many.
+fn say_records(name: &str, stream: &[u8]) -> usize {
     let rows = oracle::read(stream, usize::MAX).unwrap_or_default();
     let deepest = rows.iter().map(|row| row.level).max().unwrap_or(0);
     println!("{name}: {} records, deepest level {deepest}", rows.len());
+    rows.len()
+}
+
+/// The nanoseconds that each record of a stream takes.
+fn per_record(title: &str, records: usize, times: &Times) {
+    let [library, oracle] = [times.library, times.oracle].map(|took| took * 1e6 / records as f64);
+    println!("{title}: for each record library {library:.2} ns, oracle {oracle:.2} ns");
 }
 
 fn bench_read(name: &str, stream: &[u8]) {
-    say_records(name, stream);
+    let records = say_records(name, stream);
     let title = format!("read, {name}");
     let times = Times::of(services::read(stream), stream);
     line(&title, stream.len(), &times);
+    per_record(&title, records, &times);
     let ([mut library, _], mut other) = (services::read(stream), services::read_into(stream));
     let [library, lent] = medians([&mut library, &mut other]);
     let ratio = library / lent;
     println!(
         "{title}: the oracle into lent lists {lent:.3} ms, beside it the library {library:.3} ms; library/that {ratio:.2}"
     );
-    if cfg!(feature = "section") {
-        let times = Times::of(services::section_read(stream), stream);
-        line(&format!("section read, {name}"), stream.len(), &times);
+    let services: [(&str, Service); 2] = [
+        ("section read", services::section_read),
+        ("pack", services::pack),
+    ];
+    for (service, call) in services {
+        let times = Times::of(call(stream), stream);
+        line(&format!("{service}, {name}"), stream.len(), &times);
     }
 }
 
@@ -98,29 +111,25 @@ fn bench_host() {
 fn bench_all() {
     bench_read("real shape", &shape::section(LIMIT));
     bench_read("deep nesting", &hostile(&mut Random::new(1), HOSTILE));
-    if cfg!(feature = "host") {
-        bench_host();
+    // parents take as long at depth as where there are none
+    for (name, level) in shape::SMALL {
+        bench_read(name, &shape::small(LIMIT, level));
     }
+    bench_host();
 }
 
 /// Paragraphs nested a thousand deep and, below all of them, records of four bytes up to so many bytes in all.
 fn bench_hostile(length: usize) {
     let section = hostile(&mut Random::new(1), length);
     say_records("deep nesting", &section);
-    let services: [(&str, bool, Service); 2] = [
-        ("check", cfg!(feature = "host"), services::check),
-        (
-            "section read",
-            cfg!(feature = "section"),
-            services::section_read,
-        ),
+    let services: [(&str, Service); 2] = [
+        ("check", services::check),
+        ("section read", services::section_read),
     ];
-    for (name, linked, service) in services {
-        if linked {
-            let times = Times::of_one_round(service(&section), &section);
-            let title = format!("{name}, deep nesting, the library in one round");
-            line(&title, section.len(), &times);
-        }
+    for (name, service) in services {
+        let times = Times::of_one_round(service(&section), &section);
+        let title = format!("{name}, deep nesting, the library in one round");
+        line(&title, section.len(), &times);
     }
 }
 
@@ -149,7 +158,9 @@ fn main() -> ExitCode {
     };
     println!("medians of {ROUNDS} rounds after one; in each round every call runs once, in turn");
     println!("lists, sheets and copies are allocated once, written over in each round and not cleared between");
-    println!("the oracle makes its own vectors in each call");
+    println!(
+        "the oracle makes its own vectors in each call, and a read then writes the lent lists"
+    );
     match asked {
         Asked::All => bench_all(),
         Asked::Hostile(length) => bench_hostile(length),

@@ -3,7 +3,8 @@
 use crate::native::Native;
 use crate::shape;
 use compare::lend::{Given, Room};
-use compare::subject::{answer_of_rows, rows_of, Kind, Oracle, Subject};
+use compare::subject::{write_rows, Kind, Oracle, Subject};
+use oracle::LISTS;
 
 /// A call that can be made again and again.
 pub type Call<'a> = Box<dyn FnMut() -> u64 + 'a>;
@@ -36,22 +37,35 @@ pub fn fill(section: &[u8]) -> Pair<'_> {
     })
 }
 
-/// Four lists with room for the records of a stream; they are written once, so that their pages are there.
-fn lists_for(stream: &[u8]) -> [Vec<u32>; 4] {
+/// The lists of a table with room for the records of a stream; they are written once, so that their pages are there.
+fn lists_for(stream: &[u8]) -> [Vec<u32>; LISTS] {
     let records = oracle::read(stream, usize::MAX).map_or(0, |rows| rows.len());
-    [(); 4].map(|()| vec![u32::MAX; records])
+    [(); LISTS].map(|()| vec![u32::MAX; records])
+}
+
+/// The table of a stream packed again.
+pub fn pack(stream: &[u8]) -> Pair<'_> {
+    both(|subject| {
+        let mut lists = lists_for(stream);
+        let rows = oracle::read(stream, usize::MAX).unwrap_or_default();
+        write_rows(&rows, lists.each_mut().map(Vec::as_mut_slice));
+        let mut out = vec![0; stream.len()];
+        Box::new(move || {
+            let table = lists.each_ref().map(|list| Given::of(list));
+            let (bytes, out) = (Given::of(stream), Room::of(&mut out));
+            subject.pack(rows.len() as u64, table, bytes, out)
+        })
+    })
 }
 
 fn read_of(kind: Kind, stream: &[u8]) -> Pair<'_> {
-    let mut lists = lists_for(stream);
-    let room = lists[0].len();
-    [
+    both(|subject| {
+        let mut lists = lists_for(stream);
         Box::new(move || {
             let rooms = lists.each_mut().map(|list| Room::of(list));
-            Native.read(kind, Given::of(stream), rooms)
-        }),
-        Box::new(move || answer_of_rows(&rows_of(kind, stream, room))),
-    ]
+            subject.read(kind, Given::of(stream), rooms)
+        })
+    })
 }
 
 pub fn read(stream: &[u8]) -> Pair<'_> {

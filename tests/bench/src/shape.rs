@@ -74,6 +74,24 @@ fn field(random: &mut Random, stream: &mut Vec<u8>) {
     put(stream, 71, 1, body);
 }
 
+/// How the levels of many small records go, by the record's index.
+pub const SMALL: [(&str, fn(usize) -> u32); 3] = [
+    ("all at level 0", |_| 0),
+    ("chains of 1,000 levels", |index| (index % 1000) as u32),
+    ("children of one at level 1,000", |index| {
+        index.min(1001) as u32
+    }),
+];
+
+/// A lawful stream of records of eight bytes with their headers, as many as fit into so many bytes.
+pub fn small(length: usize, level: fn(usize) -> u32) -> Vec<u8> {
+    let mut stream = Vec::with_capacity(length);
+    for index in 0..length / 8 {
+        put(&mut stream, 200, level(index), vec![0x55; 4]);
+    }
+    stream
+}
+
 /// A lawful section of nearly so many bytes, and never more; its field stands at the end.
 pub fn section(length: usize) -> Vec<u8> {
     let random = &mut Random::new(1);

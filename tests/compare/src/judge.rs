@@ -1,11 +1,11 @@
 //! One case: the subject's answer and every lent entry and byte against the oracle's.
 
-use crate::lend::{Lent, Pattern};
+use crate::lend::{Given, Lent, Pattern, Room};
 use crate::subject::{answer_of_rows, rows_of, write_rows, Kind, Subject};
-use oracle::answer::{answer_of, answer_of_part};
+use oracle::answer::{answer, answer_of, answer_of_part};
 use oracle::lister::{judged, listing};
 use oracle::records::tile;
-use oracle::{check, field_text, fill, pack, Row};
+use oracle::{check, field_text, fill, pack, Row, LISTS};
 
 /// One fill: id and value, two bytes for each unit.
 #[derive(Clone, Debug)]
@@ -20,11 +20,11 @@ pub enum Case {
     Read {
         kind: Kind,
         stream: Vec<u8>,
-        rooms: [usize; 4],
+        rooms: [usize; LISTS],
     },
     Pack {
         count: u64,
-        lists: [Vec<u32>; 4],
+        lists: [Vec<u32>; LISTS],
         bytes: Vec<u8>,
         out: usize,
     },
@@ -126,12 +126,29 @@ fn tag_at(stream: &[u8], answer: u64) -> Option<u32> {
     rows.iter().find(holds).map(|row| row.tag)
 }
 
-const LIST_NAMES: [&str; 4] = ["tags", "levels", "places", "lengths"];
+pub const LIST_NAMES: [&str; LISTS] = ["tags", "levels", "places", "lengths", "parents"];
+
+/// Packing the table that the subject wrote gives the stream back.
+fn packs_back(
+    stream: &Lent<u8>,
+    count: usize,
+    lists: &[Lent<u32>; LISTS],
+    subject: &dyn Subject,
+    differences: &mut Vec<String>,
+) {
+    let mut out = vec![0; stream.own().len()];
+    let table = lists.each_ref().map(Lent::as_given);
+    let room = Room::of(&mut out);
+    let told = subject.pack(count as u64, table, stream.as_given(), room);
+    if told != answer(0, out.len(), 0) || out != stream.own() {
+        differences.push("packing the table does not give the stream back".to_string());
+    }
+}
 
 fn judge_read(
     kind: Kind,
     stream: &[u8],
-    rooms: [usize; 4],
+    rooms: [usize; LISTS],
     shift: usize,
     subject: &dyn Subject,
 ) -> Outcome {
@@ -152,21 +169,41 @@ fn judge_read(
     }
     let untouched = Lent::given(stream, shift);
     same("stream bytes", &given, &untouched, &mut differences);
+    if let (Ok(rows), true) = (&result, found == asked) {
+        packs_back(&given, rows.len(), &lists, subject, &mut differences);
+    }
     Outcome::of(stream, asked, differences)
+}
+
+/// Reading what the subject packed gives tags, levels, lengths and parents back; the places are those of the stream.
+fn reads_back(
+    stream: &[u8],
+    count: usize,
+    lists: &[Vec<u32>; LISTS],
+    subject: &dyn Subject,
+    differences: &mut Vec<String>,
+) {
+    let mut found = [(); LISTS].map(|()| vec![0; count]);
+    let rooms = found.each_mut().map(|list| Room::of(list));
+    let told = subject.read(Kind::Records, Given::of(stream), rooms);
+    let named = LIST_NAMES.iter().zip(found.iter().zip(lists));
+    let mut kept = named.filter(|(&name, _)| name != "places");
+    if told != answer(0, count, 0) || !kept.all(|(_, (found, given))| *found == given[..count]) {
+        differences.push("reading what was packed does not give the table back".to_string());
+    }
 }
 
 fn judge_pack(
     count: u64,
-    lists: &[Vec<u32>; 4],
+    lists: &[Vec<u32>; LISTS],
     bytes: &[u8],
     out: usize,
     shift: usize,
     subject: &dyn Subject,
 ) -> Outcome {
     let mut expected = Lent::<u8>::room(out, shift);
-    let [tags, levels, places, lengths] = lists;
-    let room = expected.own_mut();
-    let asked = answer_of(pack(count, tags, levels, places, lengths, bytes, room));
+    let table = lists.each_ref().map(Vec::as_slice);
+    let asked = answer_of(pack(count, table, bytes, expected.own_mut()));
 
     let given = lists.each_ref().map(|list| Lent::given(list, shift));
     let given_bytes = Lent::given(bytes, shift);
@@ -186,6 +223,10 @@ fn judge_pack(
     }
     let untouched = Lent::given(bytes, shift);
     same("lent bytes", &given_bytes, &untouched, &mut differences);
+    if found == asked && number_of(found) == 0 {
+        let stream = &written.own()[..place_of(found)];
+        reads_back(stream, count as usize, lists, subject, &mut differences);
+    }
     Outcome::of(&[], asked, differences)
 }
 

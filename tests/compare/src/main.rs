@@ -20,7 +20,7 @@ fn words() -> Result<Words, String> {
         seed: 1,
         cases: 20_000,
         from: 0,
-        services: ALL.into_iter().filter(|service| linked(*service)).collect(),
+        services: ALL.to_vec(),
     };
     let mut arguments = std::env::args().skip(1);
     while let Some(name) = arguments.next() {
@@ -39,24 +39,9 @@ fn words() -> Result<Words, String> {
     Ok(words)
 }
 
-/// The services whose functions are linked.
-fn linked(service: Service) -> bool {
-    match service {
-        Service::Read => true,
-        Service::Pack => cfg!(feature = "pack"),
-        Service::DocInfo => cfg!(feature = "docinfo"),
-        Service::Section => cfg!(feature = "section"),
-        Service::Check | Service::FieldText | Service::Fill | Service::TwoFills => {
-            cfg!(feature = "host")
-        }
-        Service::Lister => cfg!(feature = "lister"),
-    }
-}
-
 fn named(name: &str) -> Result<Service, String> {
-    let mut services = ALL.into_iter().filter(|service| linked(*service));
-    let service = services.find(|service| service.name() == name);
-    service.ok_or(format!("no service {name} is linked"))
+    let service = ALL.into_iter().find(|service| service.name() == name);
+    service.ok_or(format!("no service {name}"))
 }
 
 /// Prints what the cases of a service showed, and gives how much was not reached.

@@ -67,7 +67,7 @@ impl Service {
     pub fn numbers(self) -> &'static [u8] {
         match self {
             Service::Read => &[0, 1, 2, 3, 4, 5, 6, 7],
-            Service::Pack => &[0, 1, 4, 5, 6, 26, 27],
+            Service::Pack => &[0, 1, 4, 5, 6, 26, 27, 28],
             Service::DocInfo => &[0, 1, 2, 3, 4, 5, 6, 7, 16, 17, 18],
             Service::Section => &[0, 1, 2, 3, 4, 5, 6, 7, 8, 9, 10, 11, 12, 13, 14, 15],
             Service::Check | Service::Lister => {
@@ -115,9 +115,11 @@ impl Service {
     /// The edges that a run must reach.
     pub fn edges(self) -> Edges {
         match self {
-            Service::Pack | Service::TwoFills => Edges::default(),
-            Service::Read => Edges::of_records(self.most()),
-            Service::DocInfo => Edges::of_docinfo(self.most()),
+            Service::TwoFills => Edges::default(),
+            Service::Pack => Edges::of_pack(),
+            Service::Read => Edges::of_records(self.most()).and_lists(),
+            Service::DocInfo => Edges::of_docinfo(self.most()).and_lists(),
+            Service::Section => Edges::of_sections(self.most()).and_lists(),
             _ => Edges::of_sections(self.most()),
         }
     }
@@ -138,6 +140,7 @@ impl Service {
         let shift = random.below(8);
         let which = (index / LONG_EVERY) as usize;
         let case = match index % LONG_EVERY {
+            LONG_FAULT if self == Service::Pack => packing::long_fault(&mut random, which),
             LONG_FAULT if !self.faults().is_empty() => self.long_fault(&mut random, which),
             LONG => self.long_case(&mut random, which),
             _ => self.short_case(&mut random),
@@ -212,6 +215,6 @@ fn read_of(kind: Kind, stream: Vec<u8>) -> Case {
     Case::Read {
         kind,
         stream,
-        rooms: [count, count + 1, count + 2, count],
+        rooms: [count, count + 1, count + 2, count, count + 3],
     }
 }

@@ -3,7 +3,7 @@
 use crate::lend::{Given, Room};
 use oracle::answer::{answer, answer_of, answer_of_part};
 use oracle::{check, field_text, fill, list, pack, read, read_docinfo, read_section};
-use oracle::{Refusal, Row};
+use oracle::{Refusal, Row, LISTS};
 
 /// The three reads.
 #[derive(Clone, Copy, Debug, PartialEq, Eq)]
@@ -13,13 +13,16 @@ pub enum Kind {
     DocInfo,
 }
 
-/// The four lists of read: tags, levels, places, lengths.
-pub type Lists = [Room<u32>; 4];
+/// The lists that read writes: tags, levels, places, lengths, parents.
+pub type Lists = [Room<u32>; LISTS];
+
+/// The same lists where pack reads them.
+pub type Table = [Given<u32>; LISTS];
 
 /// Every call answers with the host's number. Pointers are of lent memory, as at the C face.
 pub trait Subject {
     fn read(&self, kind: Kind, stream: Given<u8>, lists: Lists) -> u64;
-    fn pack(&self, count: u64, lists: [Given<u32>; 4], bytes: Given<u8>, out: Room<u8>) -> u64;
+    fn pack(&self, count: u64, lists: Table, bytes: Given<u8>, out: Room<u8>) -> u64;
     fn check(&self, section: Given<u8>) -> u64;
     fn field_text(&self, section: Given<u8>, id: u32) -> u64;
     fn fill(&self, section: Given<u8>, id: u32, value: Given<u8>, sheet: Room<u8>) -> u64;
@@ -37,14 +40,12 @@ pub fn rows_of(kind: Kind, stream: &[u8], room: usize) -> Result<Vec<Row>, Refus
     }
 }
 
-/// Writes rows into the first entries of four lists.
-pub fn write_rows(rows: &[Row], lists: [&mut [u32]; 4]) {
-    let [tags, levels, places, lengths] = lists;
+/// Writes rows into the first entries of the lists.
+pub fn write_rows(rows: &[Row], mut lists: [&mut [u32]; LISTS]) {
     for (index, row) in rows.iter().enumerate() {
-        tags[index] = row.tag;
-        levels[index] = row.level;
-        places[index] = row.place;
-        lengths[index] = row.length;
+        for (list, entry) in lists.iter_mut().zip(row.entries()) {
+            list[index] = entry;
+        }
     }
 }
 
@@ -70,12 +71,11 @@ impl Subject for Oracle {
         answer_of_rows(&result)
     }
 
-    fn pack(&self, count: u64, lists: [Given<u32>; 4], bytes: Given<u8>, out: Room<u8>) -> u64 {
+    fn pack(&self, count: u64, lists: Table, bytes: Given<u8>, out: Room<u8>) -> u64 {
         // SAFETY: as above.
         unsafe {
-            let [tags, levels, places, lengths] = lists.map(|list| list.slice());
-            let (bytes, out) = (bytes.slice(), out.slice());
-            answer_of(pack(count, tags, levels, places, lengths, bytes, out))
+            let lists = lists.map(|list| list.slice());
+            answer_of(pack(count, lists, bytes.slice(), out.slice()))
         }
     }
 

@@ -5,7 +5,7 @@ use compare::run::run;
 use compare::service::{is_short, Service, ALL};
 use compare::subject::Oracle;
 use oracle::records::{tile, word};
-use oracle::{check, field_text, fill, read_docinfo, Row};
+use oracle::{check, field_text, fill, read_docinfo, Row, LISTS};
 use std::collections::BTreeMap;
 
 const CASES: u64 = 6000;
@@ -193,7 +193,7 @@ fn docinfos_reach_the_edges() {
             "counted tags outside",
             rows.iter().any(|row| row.level == 0 && grouped(row)),
         );
-        seen.note("lists exact", rooms == [rows.len(); 4]);
+        seen.note("lists exact", rooms == [rows.len(); LISTS]);
     }
     seen.all_at_least(5);
 }

@@ -6,7 +6,7 @@ use compare::judge::Outcome;
 use compare::lend::{Given, Room};
 use compare::run::run;
 use compare::service::Service;
-use compare::subject::{Kind, Lists, Oracle, Subject};
+use compare::subject::{Kind, Lists, Oracle, Subject, Table};
 use oracle::answer;
 use oracle::answer::answer_of;
 use oracle::lister::judged;
@@ -72,7 +72,7 @@ impl Subject for Misplaced {
         self.moved(stream, Oracle.read(kind, stream, lists))
     }
 
-    fn pack(&self, count: u64, lists: [Given<u32>; 4], bytes: Given<u8>, out: Room<u8>) -> u64 {
+    fn pack(&self, count: u64, lists: Table, bytes: Given<u8>, out: Room<u8>) -> u64 {
         Oracle.pack(count, lists, bytes, out)
     }
 

@@ -1,12 +1,13 @@
 //! Deliberately wrong reads and packs: the comparison catches each of them.
 
+use compare::cases::trees::parents;
 use compare::lend::{Given, Room};
 use compare::run::run;
 use compare::service::Service;
-use compare::subject::{Kind, Lists, Oracle, Subject};
+use compare::subject::{Kind, Lists, Oracle, Subject, Table};
 use oracle::answer;
 use oracle::records::{header_of, word};
-use oracle::LIMIT;
+use oracle::{LIMIT, LISTS};
 
 /// What a wrong read does.
 #[derive(Clone, Copy, Debug, PartialEq)]
@@ -84,16 +85,21 @@ fn wrong_read(wrong: Read, stream: Given<u8>, lists: Lists) -> u64 {
         };
         return answer(7, headers[named], 0);
     }
-    for (index, row) in rows.iter().enumerate() {
+    let levels: Vec<u32> = rows.iter().map(|row| row[1] as u32).collect();
+    let parents = parents(&levels);
+    for (index, &[tag, level, place, length]) in rows.iter().enumerate() {
+        let place = match wrong {
+            Read::GivesHeaderPlaces => headers[index],
+            _ => place,
+        };
+        let entries = [tag, level, place, length, parents[index] as usize];
         for (nth, list) in lists.iter().enumerate() {
             let last = nth == 3 && index + 1 == rows.len();
             if index >= list.length || (wrong == Read::LeavesTheLastLength && last) {
                 continue;
             }
-            let header = wrong == Read::GivesHeaderPlaces && nth == 2;
-            let entry = if header { headers[index] } else { row[nth] };
             // SAFETY: inside the list.
-            unsafe { *list.pointer.add(index) = entry as u32 };
+            unsafe { *list.pointer.add(index) = entries[nth] as u32 };
         }
     }
     let past = match wrong {
@@ -199,12 +205,12 @@ enum Pack {
 
 struct Packing<'a> {
     count: u64,
-    lists: [&'a [u32]; 4],
+    lists: [&'a [u32]; LISTS],
     bytes: &'a [u8],
 }
 
 fn wrong_pack(wrong: Pack, case: Packing, out: Room<u8>) -> u64 {
-    let [tags, levels, places, lengths] = case.lists;
+    let [tags, levels, places, lengths, given_parents] = case.lists;
     let shortest = case.lists.iter().map(|list| list.len()).min().unwrap();
     let mut count = case.count;
     match wrong {
@@ -221,6 +227,7 @@ fn wrong_pack(wrong: Pack, case: Packing, out: Room<u8>) -> u64 {
     }
     // SAFETY: the comparator lends the memory for the length of the call.
     let room = unsafe { out.slice() };
+    let parents = parents(&levels[..count]);
     let mut total = 0u64;
     let mut written = Vec::new();
     for index in 0..count {
@@ -244,6 +251,7 @@ fn wrong_pack(wrong: Pack, case: Packing, out: Room<u8>) -> u64 {
         let mut faults = [
             (!(lowest..=1023).contains(&tag), 5),
             (level > highest, 6),
+            (given_parents[index] != parents[index], 28),
             (end > case.bytes.len() as u64 && !nothing, 4),
         ];
         match wrong {
@@ -315,7 +323,7 @@ impl Subject for Wrong {
         wrong_read(self.read, stream, lists)
     }
 
-    fn pack(&self, count: u64, lists: [Given<u32>; 4], bytes: Given<u8>, out: Room<u8>) -> u64 {
+    fn pack(&self, count: u64, lists: Table, bytes: Given<u8>, out: Room<u8>) -> u64 {
         // SAFETY: the comparator lends the memory for the length of the call.
         let (lists, bytes) = unsafe { (lists.map(|list| list.slice()), bytes.slice()) };
         let case = Packing {

@@ -6,7 +6,7 @@ use compare::judge::{number_of, place_of};
 use compare::lend::{Given, Room};
 use compare::run::run;
 use compare::service::Service;
-use compare::subject::{Kind, Lists, Oracle, Subject};
+use compare::subject::{Kind, Lists, Oracle, Subject, Table};
 use oracle::docinfo::{children, counts, group_ranges, groups, layout, Layout};
 use oracle::lister::INPUT;
 use oracle::records::{half, tile, word};
@@ -78,7 +78,7 @@ impl Subject for Twisted {
         (self.read)(stream, answer)
     }
 
-    fn pack(&self, count: u64, lists: [Given<u32>; 4], bytes: Given<u8>, out: Room<u8>) -> u64 {
+    fn pack(&self, count: u64, lists: Table, bytes: Given<u8>, out: Room<u8>) -> u64 {
         Oracle.pack(count, lists, bytes, out)
     }
 

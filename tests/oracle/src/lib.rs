@@ -13,5 +13,5 @@ pub use answer::{answer, Refusal};
 pub use docinfo::read_docinfo;
 pub use fields::{field_text, fill};
 pub use lister::list;
-pub use records::{pack, read, read_into, Row, LIMIT};
+pub use records::{pack, read, read_into, Row, LIMIT, LISTS};
 pub use section::{check, read_section};

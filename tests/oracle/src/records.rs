@@ -8,17 +8,26 @@ pub const LIMIT: usize = 16_777_216;
 pub const LONG: u32 = 4095;
 const LOWEST_TAG: u32 = 16;
 const HIGHEST: u32 = 1023;
+/// The lists of a table: tags, levels, places, lengths, parents.
+pub const LISTS: usize = 5;
 
-/// One record: the place is that of its body.
+/// One record: the place is that of its body, the parent is an index.
 #[derive(Clone, Copy, Debug, PartialEq, Eq)]
 pub struct Row {
     pub tag: u32,
     pub level: u32,
     pub place: u32,
     pub length: u32,
+    pub parent: u32,
 }
 
 impl Row {
+    /// Its entries in the lists of a table.
+    #[inline]
+    pub fn entries(&self) -> [u32; LISTS] {
+        [self.tag, self.level, self.place, self.length, self.parent]
+    }
+
     pub fn header(&self) -> usize {
         self.place as usize - header_length(self.length)
     }
@@ -50,14 +59,15 @@ fn header_length(length: u32) -> usize {
     }
 }
 
+/// The header of a record in its long form; the first four bytes are the short one.
+fn long_header(tag: u32, level: u32, length: u32) -> [u8; 8] {
+    let first = tag | level << 10 | length.min(LONG) << 20;
+    (u64::from(first) | u64::from(length) << 32).to_le_bytes()
+}
+
 /// The header of a record in the form that its length asks for.
 pub fn header_of(tag: u32, level: u32, length: u32) -> Vec<u8> {
-    let size = length.min(LONG);
-    let mut header = (tag | level << 10 | size << 20).to_le_bytes().to_vec();
-    if size == LONG {
-        header.extend_from_slice(&length.to_le_bytes());
-    }
-    header
+    long_header(tag, level, length)[..header_length(length)].to_vec()
 }
 
 /// The level rule: the first level is 0, each later one at most one above the record before it.
@@ -68,8 +78,25 @@ fn level_rule(before: Option<u32>, level: u32) -> bool {
     }
 }
 
-/// The record whose header stands at `at`, after a record of level `before`. A header cut short is refused at the end
-/// of the stream, where its next byte is lacking.
+/// The index of the last record met at each level.
+struct LastAt([u32; HIGHEST as usize + 1]);
+
+impl LastAt {
+    fn none() -> LastAt {
+        LastAt([0; HIGHEST as usize + 1])
+    }
+
+    /// The parent of a record that keeps the level rule. The nearest earlier record of smaller level is then one level
+    /// above it, and the last one met there; a level 0 record has its own index.
+    #[inline]
+    fn parent(&mut self, index: usize, level: u32) -> u32 {
+        self.0[level as usize] = index as u32;
+        self.0[level.saturating_sub(1) as usize]
+    }
+}
+
+/// The record whose header stands at `at`, after a record of level `before`; its parent is left open. A header cut
+/// short is refused at the end of the stream, where its next byte is lacking.
 #[inline]
 fn read_record(stream: &[u8], at: usize, before: Option<u32>) -> Result<Row, Refusal> {
     demand(stream.len() - at >= 4, 2, stream.len())?;
@@ -91,6 +118,7 @@ fn read_record(stream: &[u8], at: usize, before: Option<u32>) -> Result<Row, Ref
         level,
         place: place as u32,
         length,
+        parent: 0,
     })
 }
 
@@ -98,8 +126,10 @@ fn read_record(stream: &[u8], at: usize, before: Option<u32>) -> Result<Row, Ref
 pub fn each_record(stream: &[u8], mut visit: impl FnMut(usize, Row)) -> Result<usize, Refusal> {
     demand(stream.len() <= LIMIT, 1, 0)?;
     let (mut at, mut count, mut before) = (0, 0, None);
+    let mut last = LastAt::none();
     while at < stream.len() {
-        let row = read_record(stream, at, before)?;
+        let mut row = read_record(stream, at, before)?;
+        row.parent = last.parent(count, row.level);
         visit(count, row);
         at = row.end();
         before = Some(row.level);
@@ -124,8 +154,8 @@ pub fn read(stream: &[u8], room: usize) -> Result<Vec<Row>, Refusal> {
     }
 }
 
-/// Read into four lent lists (tags, levels, places, lengths): one pass judges, a second writes.
-pub fn read_into(stream: &[u8], lists: [&mut [u32]; 4]) -> Result<usize, Refusal> {
+/// Read into the lent lists of a table: one pass judges, a second writes.
+pub fn read_into(stream: &[u8], lists: [&mut [u32]; LISTS]) -> Result<usize, Refusal> {
     let room = lists.iter().map(|list| list.len()).min().unwrap_or(0);
     let mut over = 0;
     let count = each_record(stream, |index, row| {
@@ -134,38 +164,33 @@ pub fn read_into(stream: &[u8], lists: [&mut [u32]; 4]) -> Result<usize, Refusal
         }
     })?;
     demand(count <= room, 7, over)?;
-    let [tags, levels, places, lengths] = lists.map(|list| &mut list[..count]);
+    let mut lists = lists.map(|list| &mut list[..count]);
     each_record(stream, |index, row| {
-        tags[index] = row.tag;
-        levels[index] = row.level;
-        places[index] = row.place;
-        lengths[index] = row.length;
+        for (list, entry) in lists.iter_mut().zip(row.entries()) {
+            list[index] = entry;
+        }
     })
 }
 
 /// Pack: writes `count` records whose bodies stand in `bytes`, and gives the length written.
 pub fn pack(
     count: u64,
-    tags: &[u32],
-    levels: &[u32],
-    places: &[u32],
-    lengths: &[u32],
+    lists: [&[u32]; LISTS],
     bytes: &[u8],
     out: &mut [u8],
 ) -> Result<usize, Refusal> {
-    let shortest = tags
-        .len()
-        .min(levels.len())
-        .min(places.len())
-        .min(lengths.len());
+    let shortest = lists.iter().map(|list| list.len()).min().unwrap_or(0);
     demand(count <= shortest as u64, 27, 0)?;
     let count = count as usize;
+    let [tags, levels, places, lengths, parents] = lists.map(|list| &list[..count]);
     let mut total: u128 = 0;
+    let mut last = LastAt::none();
     for index in 0..count {
         demand((LOWEST_TAG..=HIGHEST).contains(&tags[index]), 5, index)?;
         let before = index.checked_sub(1).map(|before| levels[before]);
         let level = levels[index];
         demand(level <= HIGHEST && level_rule(before, level), 6, index)?;
+        demand(parents[index] == last.parent(index, level), 28, index)?;
         let end = u64::from(places[index]) + u64::from(lengths[index]);
         demand(end <= bytes.len() as u64, 4, index)?;
         total += (header_length(lengths[index]) as u128) + u128::from(lengths[index]);
@@ -175,10 +200,10 @@ pub fn pack(
     demand(total <= out.len(), 26, 0)?;
     let mut at = 0;
     for index in 0..count {
-        let header = header_of(tags[index], levels[index], lengths[index]);
-        let place = places[index] as usize;
-        let body = &bytes[place..place + lengths[index] as usize];
-        for part in [&header, body] {
+        let (place, length) = (places[index] as usize, lengths[index]);
+        let header = long_header(tags[index], levels[index], length);
+        let body = &bytes[place..place + length as usize];
+        for part in [&header[..header_length(length)], body] {
             out[at..at + part.len()].copy_from_slice(part);
             at += part.len();
         }

@@ -1,9 +1,9 @@
 //! Document 01's examples: the pairs at each edge and the lister's input; and of document 02 the counts' two widths,
-//! and the places that point at the byte.
+//! the places that point at the byte, and the parents in the table.
 
 use oracle::records::header_of;
 use oracle::{answer, check, field_text, fill, list, pack, read, read_docinfo, read_section};
-use oracle::{read_into, Refusal, Row, LIMIT};
+use oracle::{read_into, Refusal, Row, LIMIT, LISTS};
 
 fn refused<T>(number: u8, place: usize) -> Result<T, Refusal> {
     Err(Refusal { number, place })
@@ -95,6 +95,7 @@ fn body_of_4094_and_4095() {
         level: 0,
         place,
         length,
+        parent: 0,
     };
     assert_eq!(read(&record(20, 0, &[1; 4094]), 1), Ok(vec![row(4, 4094)]));
     assert_eq!(read(&record(20, 0, &[1; 4095]), 1), Ok(vec![row(8, 4095)]));
@@ -134,32 +135,83 @@ fn a_short_long_length_is_named_itself() {
     }
 }
 
+/// A stream of empty records of these levels.
+fn of_levels(levels: &[u32]) -> Vec<u8> {
+    let records = levels.iter().map(|&level| record(20, level, &[]));
+    records.collect::<Vec<_>>().concat()
+}
+
 #[test]
 fn levels() {
-    let stream = |levels: &[u32]| -> Vec<u8> {
-        levels
-            .iter()
-            .flat_map(|&level| record(20, level, &[]))
-            .collect()
+    let count = |levels: &[u32]| read(&of_levels(levels), 9).map(|rows| rows.len());
+    assert_eq!(count(&[1]), refused(6, 0));
+    assert_eq!(count(&[0, 1, 0]), Ok(3));
+    assert_eq!(count(&[0, 2]), refused(6, 4));
+    assert_eq!(read(&of_levels(&[0, 1, 0]), 2), refused(7, 8));
+}
+
+fn parents_of(rows: &[Row]) -> Vec<u32> {
+    rows.iter().map(|row| row.parent).collect()
+}
+
+/// The parents in the document's own words; a record without one has its own index.
+fn nearest_earlier_of_smaller_level(levels: &[u32]) -> Vec<u32> {
+    let parent = |index: usize| {
+        let mut earlier = (0..index).rev();
+        let found = earlier.find(|&earlier| levels[earlier] < levels[index]);
+        found.unwrap_or(index) as u32
     };
-    assert_eq!(read(&stream(&[1]), 9), refused(6, 0));
-    assert_eq!(read(&stream(&[0, 1, 0]), 9).map(|rows| rows.len()), Ok(3));
-    assert_eq!(read(&stream(&[0, 2]), 9), refused(6, 4));
-    assert_eq!(read(&stream(&[0, 1, 0]), 2), refused(7, 8));
+    (0..levels.len()).map(parent).collect()
+}
+
+#[test]
+fn parents() {
+    let parents = |levels: &[u32]| parents_of(&read(&of_levels(levels), 99).unwrap());
+    assert_eq!(parents(&[]), [0; 0]);
+    assert_eq!(parents(&[0, 0, 0]), [0, 1, 2]);
+    assert_eq!(parents(&[0, 1, 1, 2, 1, 0]), [0, 0, 0, 2, 0, 5]);
+    assert_eq!(parents(&[0, 1, 2, 3, 1, 2, 0, 1]), [0, 0, 1, 2, 0, 4, 6, 6]);
+    // chains to the deepest level that come back by one, by many and to 0
+    let chain = 0..1024;
+    let back: Vec<u32> = chain.clone().rev().collect();
+    let several = [chain.collect(), back, (0..1024).collect(), vec![300, 301]];
+    let levels = [several.concat(), vec![0, 1, 1, 0]].concat();
+    let rows = read(&of_levels(&levels), levels.len()).unwrap();
+    assert_eq!(parents_of(&rows), nearest_earlier_of_smaller_level(&levels));
+}
+
+#[test]
+fn each_read_has_the_parents() {
+    let rows = read_section(&listed(), 3).unwrap();
+    assert_eq!(parents_of(&rows), [0, 0, 0]);
+    let rows = read_docinfo(&docinfo_with(&counts(2, &RIGHT)), 5).unwrap();
+    assert_eq!(parents_of(&rows), [0, 1, 1, 2, 1]);
 }
 
 #[test]
 fn read_into_lists() {
     let stream = [record(20, 0, &[1, 2]), record(21, 1, &[3; 4095])].concat();
-    let mut lists = [vec![7; 2], vec![7; 3], vec![7; 2], vec![7; 4]];
-    let lent = lists.each_mut().map(Vec::as_mut_slice);
-    assert_eq!(read_into(&stream, lent), Ok(2));
-    let written: [&[u32]; 4] = [&[20, 21], &[0, 1, 7], &[4, 14], &[2, 4095, 7, 7]];
-    assert_eq!(lists, written.map(<[u32]>::to_vec));
-    let mut lists = [vec![7; 2], vec![7; 3], vec![7; 1], vec![7; 4]];
-    let lent = lists.each_mut().map(Vec::as_mut_slice);
-    assert_eq!(read_into(&stream, lent), refused(7, 6));
-    assert!(lists.concat().iter().all(|&entry| entry == 7));
+    let with_rooms = |rooms: [usize; LISTS]| {
+        let mut lists = rooms.map(|room| vec![7; room]);
+        let lent = lists.each_mut().map(Vec::as_mut_slice);
+        (read_into(&stream, lent), lists)
+    };
+    let written: [&[u32]; LISTS] = [
+        &[20, 21],
+        &[0, 1, 7],
+        &[4, 14],
+        &[2, 4095, 7, 7],
+        &[0, 0, 7],
+    ];
+    let written = written.map(<[u32]>::to_vec);
+    assert_eq!(with_rooms([2, 3, 2, 4, 3]), (Ok(2), written));
+    for shortest in 0..LISTS {
+        let mut rooms = [4; LISTS];
+        rooms[shortest] = 1;
+        let (result, lists) = with_rooms(rooms);
+        assert_eq!(result, refused(7, 6), "{shortest}");
+        assert!(lists.concat().iter().all(|&entry| entry == 7));
+    }
 }
 
 #[test]
@@ -169,11 +221,23 @@ fn limit() {
     assert_eq!(read(&vec![0; LIMIT + 1], 1), refused(1, 0));
 }
 
+/// Packs records, each of the five entries of a row of the table.
+fn pack_rows(rows: &[[u32; LISTS]], bytes: &[u8], out: &mut [u8]) -> Result<usize, Refusal> {
+    let list = |nth: usize| rows.iter().map(|row| row[nth]).collect();
+    let lists: [Vec<u32>; LISTS] = std::array::from_fn(list);
+    pack(
+        rows.len() as u64,
+        lists.each_ref().map(Vec::as_slice),
+        bytes,
+        out,
+    )
+}
+
 #[test]
 fn pack_and_its_numbers() {
     let bytes = [9, 8, 7];
     let mut out = [0xEE; 16];
-    let good = pack(2, &[20, 21], &[0, 1], &[1, 0], &[2, 3], &bytes, &mut out);
+    let good = pack_rows(&[[20, 0, 1, 2, 0], [21, 1, 0, 3, 0]], &bytes, &mut out);
     assert_eq!(good, Ok(13));
     let written = [
         record(20, 0, &[8, 7]),
@@ -181,25 +245,90 @@ fn pack_and_its_numbers() {
         vec![0xEE; 3],
     ];
     assert_eq!(out.to_vec(), written.concat());
-    let mut try_pack = |count, tag: u32, level: u32, place: u32, length: u32, room: usize| {
-        let out = &mut out[..room];
-        pack(count, &[tag], &[level], &[place], &[length], &bytes, out)
+    let mut try_pack = |count, row: [u32; LISTS], room: usize| {
+        let lists = row.each_ref().map(std::slice::from_ref);
+        pack(count, lists, &bytes, &mut out[..room])
     };
-    assert_eq!(try_pack(1, 20, 0, 3, 0, 4), Ok(4));
-    assert_eq!(try_pack(0, 1, 9, 9, 9, 0), Ok(0));
-    assert_eq!(try_pack(2, 1, 9, 9, 9, 0), refused(27, 0));
-    assert_eq!(try_pack(1 << 63, 20, 0, 0, 0, 16), refused(27, 0));
-    assert_eq!(try_pack(1, 15, 1, 9, 9, 0), refused(5, 0));
-    assert_eq!(try_pack(1, 1024, 1, 9, 9, 0), refused(5, 0));
-    assert_eq!(try_pack(1, 1023, 1, 9, 9, 0), refused(6, 0));
-    assert_eq!(try_pack(1, 20, 0, 4, 0, 0), refused(4, 0));
-    assert_eq!(try_pack(1, 20, 0, 1, 3, 0), refused(4, 0));
-    assert_eq!(try_pack(1, 20, 0, u32::MAX, u32::MAX, 0), refused(4, 0));
-    assert_eq!(try_pack(1, 20, 0, 0, 3, 6), refused(26, 0));
-    let (many, zeros, bytes) = (vec![20; 4096], vec![0; 4096], vec![0; 1 << 20]);
-    let lengths = vec![(1 << 20) - 8; 4096];
-    let sum = pack(4096, &many, &zeros, &zeros, &lengths, &bytes, &mut out);
+    assert_eq!(try_pack(1, [20, 0, 3, 0, 0], 4), Ok(4));
+    assert_eq!(try_pack(0, [1, 9, 9, 9, 9], 0), Ok(0));
+    assert_eq!(try_pack(2, [1, 9, 9, 9, 9], 0), refused(27, 0));
+    assert_eq!(try_pack(1 << 63, [20, 0, 0, 0, 0], 16), refused(27, 0));
+    assert_eq!(try_pack(1, [15, 1, 9, 9, 9], 0), refused(5, 0));
+    assert_eq!(try_pack(1, [1024, 1, 9, 9, 9], 0), refused(5, 0));
+    assert_eq!(try_pack(1, [1023, 1, 9, 9, 9], 0), refused(6, 0));
+    assert_eq!(try_pack(1, [1023, 0, 9, 9, 9], 0), refused(28, 0));
+    assert_eq!(try_pack(1, [20, 0, 0, 0, u32::MAX], 0), refused(28, 0));
+    assert_eq!(try_pack(1, [20, 0, 4, 0, 0], 0), refused(4, 0));
+    assert_eq!(try_pack(1, [20, 0, 1, 3, 0], 0), refused(4, 0));
+    assert_eq!(
+        try_pack(1, [20, 0, u32::MAX, u32::MAX, 0], 0),
+        refused(4, 0)
+    );
+    assert_eq!(try_pack(1, [20, 0, 0, 3, 0], 6), refused(26, 0));
+    let many = |index| [20, 0, 0, (1 << 20) - 8, index];
+    let many: Vec<[u32; LISTS]> = (0..4096).map(many).collect();
+    let sum = pack_rows(&many, &vec![0; 1 << 20], &mut out);
     assert_eq!(sum, refused(1, 0));
+}
+
+#[test]
+fn pack_asks_for_each_of_the_lists() {
+    let (entry, none): (&[u32], &[u32]) = (&[16], &[]);
+    for short in 0..LISTS {
+        let mut lists = [entry; LISTS];
+        lists[short] = none;
+        assert_eq!(pack(1, lists, &[], &mut []), refused(27, 0), "{short}");
+        assert_eq!(pack(0, lists, &[], &mut []), Ok(0));
+    }
+}
+
+#[test]
+fn pack_checks_the_parents() {
+    let right = [0, 0, 1, 2, 1, 0, 6];
+    let levels = [0, 1, 2, 3, 2, 1, 0];
+    let row = |index: usize| [20, levels[index], 0, 0, right[index]];
+    let rows: Vec<[u32; LISTS]> = (0..levels.len()).map(row).collect();
+    let say = |changes: &[(usize, usize, u32)]| {
+        let mut rows = rows.clone();
+        for &(index, list, entry) in changes {
+            rows[index][list] = entry;
+        }
+        pack_rows(&rows, &[], &mut [0; 28])
+    };
+    let [tag, level, place, parent] = [0, 1, 2, 4];
+    assert_eq!(say(&[]), Ok(28));
+    for index in 0..levels.len() {
+        // any other index, in the table or past it
+        for other in (0..9)
+            .chain([u32::MAX])
+            .filter(|&other| other != right[index])
+        {
+            assert_eq!(say(&[(index, parent, other)]), refused(28, index));
+        }
+        // of one record 5, 6, 28, 4
+        let wrong = [(index, parent, 9), (index, place, 1)];
+        assert_eq!(say(&wrong), refused(28, index));
+        assert_eq!(say(&wrong[1..]), refused(4, index));
+        let deeper = [&wrong[..], &[(index, level, 9)]].concat();
+        assert_eq!(say(&deeper), refused(6, index));
+        assert_eq!(
+            say(&[&deeper[..], &[(index, tag, 15)]].concat()),
+            refused(5, index)
+        );
+    }
+    // record by record
+    assert_eq!(say(&[(3, place, 1), (4, parent, 0)]), refused(4, 3));
+    assert_eq!(say(&[(3, parent, 0), (4, tag, 15)]), refused(28, 3));
+}
+
+#[test]
+fn the_round_trip_has_the_parents() {
+    let stream = [docinfo_with(&[3; 5000]), record(20, 0, &[1]), listed()].concat();
+    let rows = read(&stream, 99).unwrap();
+    let table: Vec<[u32; LISTS]> = rows.iter().map(Row::entries).collect();
+    let mut out = vec![0; stream.len()];
+    assert_eq!(pack_rows(&table, &stream, &mut out), Ok(stream.len()));
+    assert_eq!(out, stream);
 }
 
 #[test]

@@ -1,10 +1,11 @@
 //! DocInfo streams: records 16 and 17 with children and counts, and what can be wrong with them.
 
 use crate::cases::records::{good_drafts, rooms, stream, write_stream, Draft};
+use crate::cases::trees;
 use crate::judge::Case;
 use crate::random::Random;
 use crate::subject::Kind;
-use oracle::LIMIT;
+use oracle::{LIMIT, LISTS};
 
 const GROUPS: [u32; 10] = [18, 19, 20, 21, 22, 23, 24, 25, 26, 92];
 
@@ -299,7 +300,10 @@ pub fn case(random: &mut Random) -> Case {
     let (stream, count) = if random.once_in(8) {
         stream(random)
     } else {
-        let drafts: Vec<Draft> = parts(random).concat();
+        let mut drafts: Vec<Draft> = parts(random).concat();
+        if random.once_in(10) {
+            drafts.extend(trees::drafts(random));
+        }
         let mut bytes = write_stream(&drafts);
         if random.once_in(20) {
             bytes.truncate(random.below(bytes.len() + 1));
@@ -309,7 +313,7 @@ pub fn case(random: &mut Random) -> Case {
     let rooms = if random.once_in(4) {
         rooms(random, count)
     } else {
-        [count + 4; 4]
+        [count + 4; LISTS]
     };
     Case::Read {
         kind: Kind::DocInfo,
@@ -397,6 +401,6 @@ pub fn long_case(random: &mut Random, which: usize) -> Case {
     Case::Read {
         kind: Kind::DocInfo,
         stream: write_stream(&drafts),
-        rooms: [drafts.len() + 1; 4],
+        rooms: [drafts.len() + 1; LISTS],
     }
 }

@@ -8,3 +8,4 @@ pub mod packing;
 pub mod paragraphs;
 pub mod records;
 pub mod sections;
+pub mod trees;

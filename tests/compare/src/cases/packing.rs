@@ -1,16 +1,18 @@
 //! Lists and bytes for pack: lawful, and with each kind of wrong entry, count and buffer.
 
 use crate::cases::records::{filler, good_level, good_tag, low_tag};
+use crate::cases::trees;
 use crate::judge::Case;
 use crate::random::Random;
-use oracle::{read, LIMIT};
+use oracle::{read, Row, LIMIT, LISTS};
 
-type Lists = [Vec<u32>; 4];
+pub type Lists = [Vec<u32>; LISTS];
 
-const TAGS: usize = 0;
-const LEVELS: usize = 1;
-const PLACES: usize = 2;
-const LENGTHS: usize = 3;
+pub const TAGS: usize = 0;
+pub const LEVELS: usize = 1;
+pub const PLACES: usize = 2;
+pub const LENGTHS: usize = 3;
+pub const PARENTS: usize = 4;
 
 fn how_many(random: &mut Random) -> usize {
     match random.below(12) {
@@ -49,17 +51,40 @@ fn body(random: &mut Random, bytes: usize) -> (u32, u32) {
     (random.pick(&[0, slack, any]) as u32, length as u32)
 }
 
-fn good_lists(random: &mut Random, count: usize, bytes: usize) -> Lists {
-    let mut lists: Lists = Default::default();
-    let climb = random.pick(&[1, 2, 3, 8]);
-    for _ in 0..count {
-        let level = good_level(random, lists[LEVELS].last().copied(), climb);
-        let (place, length) = body(random, bytes);
-        let entries = [good_tag(random), level, place, length];
-        for (list, entry) in lists.iter_mut().zip(entries) {
-            list.push(entry);
-        }
+/// Levels that the level rule allows, but for a chain that goes on past the deepest.
+fn levels(random: &mut Random) -> Vec<u32> {
+    if random.once_in(40) {
+        let count = random.from_to(1020, 1030);
+        return (0..count as u32).collect();
     }
+    if random.once_in(10) {
+        let count = trees::how_many(random);
+        return trees::levels(random, count);
+    }
+    let climb = random.pick(&[1, 2, 3, 8]);
+    let mut levels: Vec<u32> = Vec::new();
+    for _ in 0..how_many(random) {
+        levels.push(good_level(random, levels.last().copied(), climb));
+    }
+    levels
+}
+
+/// Records of these levels; bodies are short where there are many.
+fn good_lists(random: &mut Random, levels: Vec<u32>, bytes: usize) -> Lists {
+    let bytes = if levels.len() > 1000 {
+        bytes.min(3)
+    } else {
+        bytes
+    };
+    let mut lists: Lists = Default::default();
+    for _ in 0..levels.len() {
+        let (place, length) = body(random, bytes);
+        lists[TAGS].push(good_tag(random));
+        lists[PLACES].push(place);
+        lists[LENGTHS].push(length);
+    }
+    lists[PARENTS] = trees::parents(&levels);
+    lists[LEVELS] = levels;
     lists
 }
 
@@ -108,21 +133,85 @@ fn wrong_body(random: &mut Random, bytes: usize) -> (u32, u32) {
     }
 }
 
-fn break_entry(random: &mut Random, lists: &mut Lists, bytes: usize) {
-    let count = lists[TAGS].len();
-    if count == 0 {
-        return;
-    }
-    let index = random.below(count);
-    match random.below(3) {
-        0 => lists[TAGS][index] = wrong_tag(random),
-        1 => {
+/// A wrong parent for the record, where these are the right ones: the record before, the parent's parent, its own
+/// index, the first record, one beside the right one, the record before on its level, or no record at all.
+fn wrong_parent(random: &mut Random, levels: &[u32], right: &[u32], index: usize) -> u32 {
+    let (own, parent) = (index as u32, right[index]);
+    let (count, more) = (levels.len() as u32, random.from_to(1, 9) as u32);
+    let mut before = (0..index).rev();
+    let beside = before.find(|&before| levels[before] == levels[index]);
+    let ways = [
+        own.wrapping_sub(1),
+        right[parent as usize],
+        own,
+        0,
+        parent + 1,
+        parent.wrapping_sub(1),
+        beside.map_or(own + 1, |beside| beside as u32),
+        count,
+        count + more,
+        u32::MAX,
+    ];
+    let wrong: Vec<u32> = ways.into_iter().filter(|&way| way != parent).collect();
+    random.pick(&wrong)
+}
+
+/// What of a record is made wrong. The parents come last: the right ones go by the levels as they then are.
+#[derive(Clone, Copy, PartialEq, Eq, PartialOrd, Ord)]
+enum Part {
+    Tag,
+    Level,
+    Body,
+    Parent,
+}
+
+fn break_part(random: &mut Random, lists: &mut Lists, part: Part, index: usize, bytes: usize) {
+    match part {
+        Part::Tag => lists[TAGS][index] = wrong_tag(random),
+        Part::Level => {
             let before = index.checked_sub(1).map(|before| lists[LEVELS][before]);
             if before.is_none_or(|before| before < 1023) {
                 lists[LEVELS][index] = wrong_level(random, before);
+                lists[PARENTS] = trees::parents(&lists[LEVELS]);
             }
         }
-        _ => (lists[PLACES][index], lists[LENGTHS][index]) = wrong_body(random, bytes),
+        Part::Body => (lists[PLACES][index], lists[LENGTHS][index]) = wrong_body(random, bytes),
+        Part::Parent => {
+            let right = trees::parents(&lists[LEVELS]);
+            lists[PARENTS][index] = wrong_parent(random, &lists[LEVELS], &right, index);
+        }
+    }
+}
+
+/// The first, a middle, the last or the deepest record, or any.
+fn some_record(random: &mut Random, levels: &[u32]) -> usize {
+    let deepest = (0..levels.len()).max_by_key(|&index| levels[index]);
+    let any = random.below(levels.len());
+    let (middle, last) = (levels.len() / 2, levels.len() - 1);
+    random.pick(&[0, middle, last, deepest.unwrap_or(0), any])
+}
+
+/// Makes so many entries wrong, most of them of one record.
+fn break_entries(random: &mut Random, lists: &mut Lists, bytes: usize, times: usize) {
+    if lists[TAGS].is_empty() {
+        return;
+    }
+    let one = some_record(random, &lists[LEVELS]);
+    let mut faults: Vec<(Part, usize)> = Vec::new();
+    for _ in 0..times {
+        let part = random.pick(&[
+            Part::Tag,
+            Part::Level,
+            Part::Body,
+            Part::Parent,
+            Part::Parent,
+        ]);
+        let any = some_record(random, &lists[LEVELS]);
+        faults.push((part, random.pick(&[one, one, any])));
+    }
+    faults.sort();
+    for (part, index) in faults {
+        break_part(random, lists, part, index, bytes);
     }
 }
 
@@ -153,7 +242,7 @@ fn wrong_count(random: &mut Random, count: usize, lists: &mut Lists) -> u64 {
         u64::MAX,
     ];
     if count > 0 && random.once_in(2) {
-        lists[random.below(4)].truncate(count as usize - 1);
+        lists[random.below(LISTS)].truncate(count as usize - 1);
         return count;
     }
     random.pick(&counts)
@@ -179,41 +268,13 @@ fn out_length(random: &mut Random, total: usize) -> usize {
     }
 }
 
-/// Records chained up to level 1023, and at times to 1024.
-fn chain(random: &mut Random) -> Lists {
-    let count = random.from_to(1020, 1030);
-    let levels = (0..count as u32).map(|level| {
-        if random.once_in(2000) {
-            level + 1
-        } else {
-            level
-        }
-    });
-    let mut levels: Vec<u32> = levels.collect();
-    if random.once_in(2) {
-        levels.truncate(1024);
-    }
-    let count = levels.len();
-    [vec![66; count], levels, vec![0; count], vec![0; count]]
-}
-
 pub fn case(random: &mut Random) -> Case {
     let bytes = bytes(random);
-    let count = how_many(random);
-    let mut lists = if random.once_in(40) {
-        chain(random)
-    } else {
-        good_lists(random, count, bytes.len())
-    };
+    let levels = levels(random);
+    let mut lists = good_lists(random, levels, bytes.len());
     let mut count = lists[TAGS].len() as u64;
-    let breaks = match random.below(8) {
-        0..=3 => 0,
-        4 | 5 => 1,
-        _ => random.below(4),
-    };
-    for _ in 0..breaks {
-        break_entry(random, &mut lists, bytes.len());
-    }
+    let breaks = random.pick(&[0, 0, 0, 1, 1, 1, 2, 3]);
+    break_entries(random, &mut lists, bytes.len(), breaks);
     if random.once_in(2) {
         lengthen(random, &mut lists);
     }
@@ -237,6 +298,7 @@ fn alike(count: usize, length: u32) -> Lists {
         vec![0; count],
         vec![0; count],
         vec![length; count],
+        (0..count as u32).collect(),
     ]
 }
 
@@ -244,12 +306,8 @@ fn alike(count: usize, length: u32) -> Lists {
 fn round_trip(random: &mut Random, longest: usize) -> Case {
     let (stream, count) = filler(random, LIMIT, longest);
     let rows = read(&stream, count).unwrap_or_default();
-    let lists = [
-        rows.iter().map(|row| row.tag).collect(),
-        rows.iter().map(|row| row.level).collect(),
-        rows.iter().map(|row| row.place).collect(),
-        rows.iter().map(|row| row.length).collect(),
-    ];
+    let entries: Vec<[u32; LISTS]> = rows.iter().map(Row::entries).collect();
+    let lists = std::array::from_fn(|nth| entries.iter().map(|row| row[nth]).collect());
     Case::Pack {
         count: rows.len() as u64,
         lists,
@@ -294,5 +352,37 @@ pub fn long_case(random: &mut Random, which: usize) -> Case {
         lists,
         bytes: random.bytes(bytes),
         out,
+    }
+}
+
+/// A table of many records whose output has all of the limit.
+fn long_tree(random: &mut Random) -> Lists {
+    const COUNT: usize = LIMIT / 64;
+    let levels = trees::levels(random, COUNT);
+    let parents = trees::parents(&levels);
+    [
+        vec![77; COUNT],
+        levels,
+        vec![0; COUNT],
+        vec![60; COUNT],
+        parents,
+    ]
+}
+
+/// Long tables, of which the first has right parents; the parent of the last record is wrong in the others.
+pub fn long_fault(random: &mut Random, which: usize) -> Case {
+    let (mut lists, bytes) = match which % 3 {
+        0 | 1 => (long_tree(random), 60),
+        // over the limit too
+        _ => (alike(4097, (1 << 20) - 8), 1 << 20),
+    };
+    if let (1.., Some(last)) = (which % 3, lists[PARENTS].last_mut()) {
+        *last = random.pick(&[*last + 1, u32::MAX]);
+    }
+    Case::Pack {
+        count: lists[TAGS].len() as u64,
+        lists,
+        bytes: random.bytes(bytes),
+        out: LIMIT,
     }
 }

@@ -1,9 +1,10 @@
 //! Record streams for read: lawful tilings, faults in each part of a header, and cut ends.
 
+use crate::cases::trees;
 use crate::judge::Case;
 use crate::random::Random;
 use crate::subject::Kind;
-use oracle::LIMIT;
+use oracle::{LIMIT, LISTS};
 
 /// A record to be written: what its header says and the body that follows.
 #[derive(Clone, Debug)]
@@ -240,8 +241,12 @@ pub fn stream(random: &mut Random) -> (Vec<u8>, usize) {
         let length = random.below(40);
         return (random.bytes(length), 4);
     }
-    let count = how_many(random);
-    let mut drafts = good_drafts(random, count);
+    let mut drafts = if random.once_in(10) {
+        trees::drafts(random)
+    } else {
+        let count = how_many(random);
+        good_drafts(random, count)
+    };
     let damage = random.below(10);
     let breaks = match damage {
         0..=3 => 0,
@@ -258,19 +263,19 @@ pub fn stream(random: &mut Random) -> (Vec<u8>, usize) {
     } else if random.once_in(8) {
         messy_end(random, &mut bytes, drafts.last().map(|draft| draft.level));
     }
-    (bytes, count)
+    (bytes, drafts.len())
 }
 
-/// Lengths of the four lists for a stream of about `count` records.
-pub fn rooms(random: &mut Random, count: usize) -> [usize; 4] {
-    let mut rooms = [count; 4];
+/// Lengths of the lists for a stream of about `count` records.
+pub fn rooms(random: &mut Random, count: usize) -> [usize; LISTS] {
+    let mut rooms = [count; LISTS];
     match random.below(8) {
         0 => {}
-        1 => rooms[random.below(4)] = count.saturating_sub(1),
-        2 => rooms[random.below(4)] = random.below(count + 1),
-        3 => rooms = [0; 4].map(|_| random.below(count + 3)),
-        4 => rooms[random.below(4)] = 0,
-        5 => rooms = [count + 1; 4],
+        1 => rooms[random.below(LISTS)] = count.saturating_sub(1),
+        2 => rooms[random.below(LISTS)] = random.below(count + 1),
+        3 => rooms = rooms.map(|_| random.below(count + 3)),
+        4 => rooms[random.below(LISTS)] = 0,
+        5 => rooms = [count + 1; LISTS],
         _ => rooms = rooms.map(|room| room + random.below(20)),
     }
     rooms
@@ -321,41 +326,42 @@ pub const LONG_KINDS: usize = 10;
 
 /// Streams of many megabytes, at and over the limit.
 pub fn long_case(random: &mut Random, which: usize) -> Case {
-    let mut rooms = [1; 4];
+    let mut rooms = [1; LISTS];
     let stream = match which % LONG_KINDS {
         0 => single(random, LIMIT),
         1 => single(random, LIMIT + 1),
         2 => {
-            let (stream, count) = filler(random, LIMIT, 0);
-            rooms = [count; 4];
-            stream
+            let levels = trees::levels(random, LIMIT / 4);
+            rooms = [levels.len(); LISTS];
+            let headers = levels.iter().map(|level| 200 + level * 1024);
+            headers.flat_map(u32::to_le_bytes).collect()
         }
         3 => {
             let (stream, count) = filler(random, LIMIT, 0);
-            rooms = [count + 3; 4];
-            rooms[random.below(4)] = count - 1;
+            rooms = [count + 3; LISTS];
+            rooms[random.below(LISTS)] = count - 1;
             stream
         }
         4 => {
             let (stream, count) = filler(random, LIMIT, 9000);
-            rooms = [count, count + 1, count + 2, count + 7];
+            rooms = [count, count + 1, count + 2, count + 7, count + 3];
             stream
         }
         5 => {
             let (mut stream, count) = filler(random, LIMIT, 9000);
-            rooms = [count + 1; 4];
+            rooms = [count + 1; LISTS];
             stream.push(0);
             stream
         }
         6 => {
             let (mut stream, count) = filler(random, LIMIT - 3, 60);
-            rooms = [count + 1; 4];
+            rooms = [count + 1; LISTS];
             stream.extend([66, 0, 0]);
             stream
         }
         7 => {
             let (mut stream, count) = filler(random, LIMIT - 4, 60);
-            rooms = [count + 1; 4];
+            rooms = [count + 1; LISTS];
             stream.extend(low_tag(random).to_le_bytes());
             stream
         }
@@ -364,7 +370,7 @@ pub fn long_case(random: &mut Random, which: usize) -> Case {
             let longest = random.pick(&[200_000, 5_000_000]);
             let length = random.from_to(LIMIT - 5000, LIMIT - 8);
             let (mut stream, count) = filler(random, length, longest);
-            rooms = [count + 1; 4];
+            rooms = [count + 1; LISTS];
             if random.once_in(2) {
                 let end = stream.len() - random.from_to(1, 3);
                 stream.truncate(end);

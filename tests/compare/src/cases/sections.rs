@@ -3,11 +3,12 @@
 use crate::cases::damage::damage;
 use crate::cases::paragraphs::{deep, section, Builder, Style, MIXED, REAL};
 use crate::cases::records::{damage_bytes, rooms, stream, write_stream, Draft};
+use crate::cases::trees;
 use crate::judge::Case;
 use crate::random::Random;
 use crate::subject::Kind;
 use oracle::lister::INPUT;
-use oracle::LIMIT;
+use oracle::{LIMIT, LISTS};
 
 /// Damages the records of a section once or more; half of the sections stay lawful.
 pub fn damaged(random: &mut Random, drafts: &mut Vec<Draft>) {
@@ -31,6 +32,9 @@ fn any_section(random: &mut Random, style: Style) -> (Vec<u8>, usize) {
     };
     damaged(random, &mut drafts);
     drafts.retain(|draft| draft.level < 1024);
+    if random.once_in(16) {
+        drafts.extend(trees::drafts(random));
+    }
     let mut bytes = write_stream(&drafts);
     if random.once_in(16) {
         let places: Vec<usize> = (0..4).map(|_| random.below(bytes.len() + 1)).collect();
@@ -44,7 +48,7 @@ pub fn read_case(random: &mut Random) -> Case {
     let rooms = if random.once_in(4) {
         rooms(random, count)
     } else {
-        [count + 3; 4]
+        [count + 3; LISTS]
     };
     Case::Read {
         kind: Kind::Section,
@@ -156,7 +160,7 @@ pub fn long_read_case(random: &mut Random, which: usize) -> Case {
     Case::Read {
         kind: Kind::Section,
         stream,
-        rooms: [room, count, count + 1, count + 2],
+        rooms: [room, count, count + 1, count + 2, count],
     }
 }
 

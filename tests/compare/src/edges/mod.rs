@@ -3,7 +3,10 @@
 mod counts;
 mod entries;
 mod headers;
+mod packs;
+mod rooms;
 mod texts;
+mod trees;
 
 pub use counts::Counted;
 pub use entries::Entry;
@@ -12,6 +15,8 @@ pub use texts::Text;
 
 use crate::judge::{Case, Outcome};
 use oracle::Row;
+use rooms::Rooms;
+use trees::Tree;
 
 /// An edge is reached by a case with this number of which the question is true.
 pub struct Edge<T> {
@@ -54,6 +59,10 @@ pub struct Edges {
     texts: Vec<Edge<Text>>,
     entries: Vec<Edge<Entry>>,
     counts: Vec<Edge<Counted>>,
+    rooms: Vec<Edge<Rooms>>,
+    trees: Vec<Edge<Tree>>,
+    packed: Vec<Edge<packs::Named>>,
+    counted: Vec<Edge<packs::Counted>>,
 }
 
 impl Edges {
@@ -80,27 +89,51 @@ impl Edges {
         }
     }
 
+    pub fn of_pack() -> Edges {
+        Edges {
+            trees: trees::edges(),
+            packed: packs::of_records(),
+            counted: packs::of_counts(),
+            ..Edges::default()
+        }
+    }
+
+    /// With those of a read that writes lists.
+    pub fn and_lists(self) -> Edges {
+        Edges {
+            rooms: rooms::edges(),
+            trees: trees::edges(),
+            ..self
+        }
+    }
+
     pub fn names(&self) -> Vec<String> {
         let names = [
             names(&self.headers),
             names(&self.texts),
             names(&self.entries),
             names(&self.counts),
+            names(&self.rooms),
+            names(&self.trees),
+            names(&self.packed),
+            names(&self.counted),
         ];
         names.concat()
     }
 
     /// The edges that a case reaches.
     pub fn reached(&self, case: &Case, outcome: &Outcome) -> Vec<String> {
-        let Some(stream) = case.stream() else {
-            return Vec::new();
-        };
+        let stream = case.stream().unwrap_or_default();
         let (number, place) = (outcome.number, outcome.place);
         let met = [
             met(&self.headers, number, || Some(Header::of(stream))),
             met(&self.texts, number, || Text::of(stream, place)),
             met(&self.entries, number, || Entry::of(stream, place)),
             met(&self.counts, number, || Counted::of(stream, outcome)),
+            met(&self.rooms, number, || Rooms::of(case)),
+            met(&self.trees, number, || Tree::of(case)),
+            met(&self.packed, number, || packs::Named::of(case, place)),
+            met(&self.counted, number, || packs::Counted::of(case)),
         ];
         met.concat()
     }

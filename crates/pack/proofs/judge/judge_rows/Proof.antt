@@ -1,7 +1,8 @@
 -- The rows, one after the other: what is left answers for all. Assumes nothing.
 use borrow.Author.Needs.{needs}
 use native.Mathlib.Omega.{arith}
-use Prim.Native.Nat.{_-_}
+use Prim.Native.Nat.{_-_, _≤_}
+use lib.ListN.{length}
 use mathlib.Core.Path.{_∙_}
 use Rattle.pack.proofs.JudgeLaws.{Judging, judging-start, judging-level, judging-next, judging-stop, judging-end}
 use Rattle.pack.proofs.judge.judge_rows.Statement.{statement}
@@ -12,12 +13,13 @@ use Rattle.pack.proofs.judge.close.Reads as close-reads
 use Rattle.pack.proofs.judge.grown.Reads as grown-reads
 use Rattle.pack.proofs.judge.row.Reads as row-reads
 use Rattle.numbers.proofs.wide.Reads as wide-reads
+use Rattle.records.proofs.right_parents.Reads as right-parents-reads
 
 abbrev Inv-loop : tie.InvT-loop
-Inv-loop count tags levels places lengths bytes room i₀ cap₀ total₀ i cap total = Judging tags levels places lengths bytes count i cap total
+Inv-loop count tags levels places lengths parents bytes room right i₀ cap₀ total₀ i cap total = Judging tags levels places lengths parents bytes count right i cap total
 
 abbrev μ-loop : tie.MeasureT-loop
-μ-loop count tags levels places lengths bytes room i₀ cap₀ total₀ i cap total = count - i
+μ-loop count tags levels places lengths parents bytes room right i₀ cap₀ total₀ i cap total = count - i
 
 -- behind a row that was judged: its length and its place as they were read, and the turn's beginning
 abbrev length-read : tie.After-row Inv-loop μ-loop → tie.After-wide Inv-loop μ-loop
@@ -29,8 +31,14 @@ place-read c = c .before .before
 abbrev turn : tie.After-row Inv-loop μ-loop → tie.In-loop Inv-loop μ-loop
 turn c = c .before .before .before .before .before .before .before
 
+listed : (c : tie.After-row Inv-loop μ-loop) → turn c .before .before .before .before .before .before .before .before .before .args .count ≤ length (turn c .before .before .before .before .before .before .before .before .before .args .parents .now)
+listed c = omega (arith, turn c .before .before .before .before .before .before .before .before .before .pre)
+
+right-parents-requires : tie.Need-right-parents-requires Inv-loop μ-loop
+right-parents-requires c κs = search needs
+
 loop-holds : tie.Need-loop-holds Inv-loop μ-loop
-loop-holds c = judging-start _ _ _ _ _ _
+loop-holds c = judging-start _ _ _ _ _ _ _ _ (omega (arith, c .before .before .before .before .before .before .before .pre)) (c .right-parents .ensures)
 
 mul-level : tie.Need-mul-level Inv-loop μ-loop
 mul-level c = search needs
@@ -73,7 +81,7 @@ add-cap c =
     let d = c .before .before in
     omega (
       arith,
-      judging-level _ _ _ _ _ _ _ _ _ _ _ _ (turn d .loop-test .taken) (turn d .before .loop .inv)
+      judging-level _ _ _ _ _ _ _ _ _ _ _ _ _ _ (turn d .loop-test .taken) (listed d) (turn d .before .loop .inv)
           (place-read d .wide2 .ensures .0) (length-read d .wide .ensures .0) (d .row .ensures) (c .enum-told .given .1),
     )
 
@@ -89,7 +97,7 @@ loop-less c = search needs
 loop-again : tie.Need-loop-again Inv-loop μ-loop
 loop-again c =
     let d = c .before .before .before in
-    judging-next _ _ _ _ _ _ _ _ _ _ _ _ (turn d .loop-test .taken) (turn d .before .loop .inv)
+    judging-next _ _ _ _ _ _ _ _ _ _ _ _ _ _ (turn d .loop-test .taken) (listed d) (turn d .before .loop .inv)
     (place-read d .wide2 .ensures .0) (length-read d .wide .ensures .0) (d .row .ensures) _ (c .before .enum-told .given .1) (c .grown .ensures .0)
 
 enum-known-fault : tie.Need-enum-known-fault Inv-loop μ-loop
@@ -98,14 +106,14 @@ enum-known-fault c = search needs
 returns : tie.Need-returns Inv-loop μ-loop
 returns c =
     let d = c .before .before .before in
-    judging-stop _ _ _ _ _ _ _ _ _ _ _ _ (turn d .loop-test .taken) (turn d .before .loop .inv)
+    judging-stop _ _ _ _ _ _ _ _ _ _ _ _ _ _ (turn d .loop-test .taken) (listed d) (turn d .before .loop .inv)
     (place-read d .wide2 .ensures .0) (length-read d .wide .ensures .0) (d .row .ensures) _ _ (c .before .fault .given .1)
 
 close-requires : tie.Need-close-requires Inv-loop μ-loop
 close-requires c κs = search needs
 
 returns-2 : tie.Need-returns-2 Inv-loop μ-loop
-returns-2 c = c .close .ensures ∙ judging-end _ _ _ _ _ _ _ _ _ _ (c .before .loop-test .left) (c .before .before .loop .inv)
+returns-2 c = c .close .ensures ∙ judging-end _ _ _ _ _ _ _ _ _ _ _ _ (c .before .loop-test .left) (c .before .before .loop .inv)
 
 pub judge-rows-spec : {M : Type 1} → statement M
 judge-rows-spec =
@@ -113,6 +121,7 @@ judge-rows-spec =
     (tie.spec
     Inv-loop
     μ-loop
+    right-parents-requires
     loop-holds
     mul-level
     shared-slice-read-level

@@ -1,38 +1,39 @@
--- The ways out of a row, each by the tests that led there. Assumes nothing.
-use borrow.Author.Tests.{lt-ltb, le-ltb}
-use Rattle.pack.specs.Packing.{verdict}
+-- A row is judged by its numbers, its parent and its body, in this order. Assumes nothing.
 use borrow.Author.Needs.{needs}
+use mathlib.Core.Path.{ap₂, _∙_}
+use Rattle.pack.specs.Packing.{firstOf, verdict}
 use Rattle.pack.proofs.judge.row.Statement.{statement}
 use Rattle.pack.proofs.judge.row.Tie as tie
 use Rattle.pack.proofs.judge.row.Reads as reads
 use Rattle.pack.proofs.judge.row.Lts as lts
+use Rattle.pack.proofs.judge.body.Reads as body-reads
+use Rattle.pack.proofs.judge.first_of.Reads as first-of-reads
+use Rattle.pack.proofs.judge.numbers.Reads as numbers-reads
+use Rattle.pack.proofs.judge.parent.Reads as parent-reads
+
+numbers-requires : tie.Need-numbers-requires
+numbers-requires c κs = search needs
+
+parent-requires : tie.Need-parent-requires
+parent-requires c κs = search needs
+
+add-body : tie.Need-add-body
+add-body c = search needs
+
+body-requires : tie.Need-body-requires
+body-requires c κs = search needs
+
+first-of-requires : tie.Need-first-of-requires
+first-of-requires c κs = search needs
+
+first-of-requires-2 : tie.Need-first-of-requires-2
+first-of-requires-2 c κs = search needs
 
 returns : tie.Need-returns
 unfolding verdict
-returns c = simp (lt-ltb _ _ (c .if1 .taken))
-
-returns-2 : tie.Need-returns-2
-unfolding verdict
-returns-2 c = simp (le-ltb _ _ (c .before .if1 .left), lt-ltb _ _ (c .if2 .taken))
-
-returns-3 : tie.Need-returns-3
-unfolding verdict
-returns-3 c = simp (le-ltb _ _ (c .before .before .if1 .left), le-ltb _ _ (c .before .if2 .left), lt-ltb _ _ (c .if3 .taken))
-
-returns-4 : tie.Need-returns-4
-unfolding verdict
-returns-4 c = simp (le-ltb _ _ (c .before .before .before .if1 .left), le-ltb _ _ (c .before .before .if2 .left), le-ltb _ _ (c .before .if3 .left), lt-ltb _ _ (c .if4 .taken))
-
-add-if5 : tie.Need-add-if5
-add-if5 c = search needs
-
-returns-5 : tie.Need-returns-5
-unfolding verdict
-returns-5 c = simp (le-ltb _ _ (c .before .before .before .before .before .if1 .left), le-ltb _ _ (c .before .before .before .before .if2 .left), le-ltb _ _ (c .before .before .before .if3 .left), le-ltb _ _ (c .before .before .if4 .left), lt-ltb _ _ (c .if5 .taken))
-
-returns-6 : tie.Need-returns-6
-unfolding verdict
-returns-6 c = simp (le-ltb _ _ (c .before .before .before .before .before .if1 .left), le-ltb _ _ (c .before .before .before .before .if2 .left), le-ltb _ _ (c .before .before .before .if3 .left), le-ltb _ _ (c .before .before .if4 .left), le-ltb _ _ (c .if5 .left))
+returns c =
+    c .first-of2 .ensures
+    ∙ ap₂ firstOf (c .before .before .before .before .before .numbers .ensures) (c .before .first-of .ensures ∙ ap₂ firstOf (c .before .before .before .before .parent .ensures) (c .before .before .body .ensures))
 
 pub row-spec : {M : Type 1} → statement M
-row-spec = tie.close (tie.spec returns returns-2 returns-3 returns-4 add-if5 returns-5 returns-6)
+row-spec = tie.close (tie.spec numbers-requires parent-requires add-body body-requires first-of-requires first-of-requires-2 returns)

@@ -1,4 +1,5 @@
 -- Judged first; only an acceptance is laid. Assumes nothing.
+use Rattle.records.specs.Table.{lists}
 use Rattle.pack.proofs.PackLaws.{may-lay, packs-laid, packs-refused}
 use borrow.Author.Needs.{needs}
 use Rattle.pack.proofs.table.pack.Statement.{statement}
@@ -15,7 +16,7 @@ enum-told : tie.Need-enum-told
 enum-told c = search needs
 
 lay-requires : tie.Need-lay-requires
-lay-requires c κs = may-lay _ _ _ _ _ _ (c .before .before .before .before .before .before .before .before .before .before .args .out .now) _ (c .before .before .before .judge .ensures) _ (c .before .enum-told .given .1)
+lay-requires c κs = may-lay _ (lists (c .before .before .before .before .before .before .before .before .before .before .before .args .tags .now) (c .before .before .before .before .before .before .before .before .before .before .before .args .levels .now) (c .before .before .before .before .before .before .before .before .before .before .before .args .places .now) (c .before .before .before .before .before .before .before .before .before .before .before .args .lengths .now) (c .before .before .before .before .before .before .before .before .before .before .before .args .parents .now)) _ (c .before .before .before .before .before .before .before .before .before .before .before .args .out .now) _ (c .before .before .before .judge .ensures) _ (c .before .enum-told .given .1)
 
 enum-told-2 : tie.Need-enum-told-2
 enum-told-2 c = search needs
@@ -25,10 +26,10 @@ same-length c = search needs
 
 returns : tie.Need-returns
 returns c =
-    packs-laid _ _ _ _ _ _ _ _ (c .before .before .before .before .before .before .judge .ensures) _ _ (c .before .before .before .before .enum-told .given .1) (c .before .before .lay .ensures)
+    packs-laid _ (lists (c .before .before .before .before .before .before .before .before .before .before .before .before .before .before .args .tags .now) (c .before .before .before .before .before .before .before .before .before .before .before .before .before .before .args .levels .now) (c .before .before .before .before .before .before .before .before .before .before .before .before .before .before .args .places .now) (c .before .before .before .before .before .before .before .before .before .before .before .before .before .before .args .lengths .now) (c .before .before .before .before .before .before .before .before .before .before .before .before .before .before .args .parents .now)) _ _ _ (c .before .before .before .before .before .before .judge .ensures) _ _ (c .before .before .before .before .enum-told .given .1) (c .before .before .lay .ensures)
 
 returns-2 : tie.Need-returns-2
-returns-2 c = packs-refused _ _ _ _ _ _ _ _ (c .before .before .judge .ensures) _ _ (c .enum-told2 .given .1)
+returns-2 c = packs-refused _ (lists (c .before .before .before .before .before .before .before .before .before .before .args .tags .now) (c .before .before .before .before .before .before .before .before .before .before .args .levels .now) (c .before .before .before .before .before .before .before .before .before .before .args .places .now) (c .before .before .before .before .before .before .before .before .before .before .args .lengths .now) (c .before .before .before .before .before .before .before .before .before .before .args .parents .now)) _ _ _ (c .before .before .judge .ensures) _ _ (c .enum-told2 .given .1)
 
 pub pack-spec : {M : Type 1} → statement M
 pack-spec =
