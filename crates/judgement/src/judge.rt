@@ -42,7 +42,7 @@ ghost use Rattle.paragraph.specs.Rules as rules;
 ghost use Rattle.paragraph.specs.declared.finding.Which.the-variants as W;
 ghost use Rattle.paragraph.specs.declared.finding.Finding.the-variants as G;
 ghost use Rattle.records.specs.declared.fault.Fault.the-variants as F;
-ghost use Rattle.paragraph.specs.Places.{bodyFound, textJudged, placeFound, bodyPlace, childIn, entryPlace, placeOf};
+ghost use Rattle.paragraph.specs.Places.{partsIn, bodyFound, textJudged, placeFound, bodyPlace, childIn, entryPlace, placeOf};
 
 // The numbers in a paragraph header's body, which is long enough.
 fn counts(head: &[u8]) -> Counts
@@ -163,11 +163,11 @@ fn body_fault(s: &[u8], from: Offset, n: u32, count: u32, p: Parts) -> Finding
     }
 }
 
-// 10 to 15.
-fn parts_fault(s: &[u8], from: Offset, n: u32, c: Counts) -> Finding
+// 10 to 15, by the paragraph's parts.
+fn parts_fault(s: &[u8], from: Offset, n: u32, c: Counts, p: Parts) -> Finding
+    requires { ⌜ p ≡ partsIn n (from .0) (recordsIn (drop (from .0) (now s))) ⌝ }
     ensures { λ r. ⌜ r ≡ rules.partsFault c (kids n (recordsIn (drop (from .0) (now (s .entry))))) ⌝ }
 {
-    let p = find_parts(s, from, n);
     let count = c.count;
     if absent(c, p) {
         return of_header(Fault::RecordAbsent);
@@ -178,14 +178,15 @@ fn parts_fault(s: &[u8], from: Offset, n: u32, c: Counts) -> Finding
     }
 }
 
-// 8 to 15, by the header's body and the records from `from` on.
-fn head_fault(s: &[u8], from: Offset, n: u32, head: &[u8]) -> Finding
+// 8 to 15, by the header's body and the parts that the records from `from` on have of it, however they were found.
+pub fn head_fault(s: &[u8], from: Offset, n: u32, head: &[u8], p: Parts) -> Finding
+    requires { ⌜ p ≡ partsIn n (from .0) (recordsIn (drop (from .0) (now s))) ⌝ }
     ensures { λ r. ⌜ r ≡ rules.headFault (now (head .entry)) (kids n (recordsIn (drop (from .0) (now (s .entry))))) ⌝ }
 {
     if head.len() < 22 {
         return of_header(Fault::ParagraphHeaderShort);
     }
-    parts_fault(s, from, n, counts(head))
+    parts_fault(s, from, n, counts(head), p)
 }
 
 // The paragraph whose header stands at a place.
@@ -196,7 +197,9 @@ pub fn judge_paragraph(s: &[u8], at: Offset) -> Finding
         return Finding::Lawful;
     };
     let behind = r.next;
-    head_fault(s, behind, r.level + 1, body(s, r))
+    let below = r.level + 1;
+    let p = find_parts(s, behind, below);
+    head_fault(s, behind, below, body(s, r), p)
 }
 
 fn place_found(other: Offset, f: Found) -> Offset

@@ -11,6 +11,7 @@ use Rattle.judgement.proofs.judge.judge_paragraph.Reads as reads
 use Rattle.judgement.proofs.judge.judge_paragraph.Lts as lts
 use Rattle.judgement.proofs.judge.head_fault.Reads as head-fault-reads
 use Rattle.paragraph.proofs.body.Reads as body-reads
+use Rattle.paragraph.proofs.find_parts.Reads as find-parts-reads
 use Rattle.records.proofs.record_at.Reads as record-at-reads
 
 record-at-requires : tie.Need-record-at-requires
@@ -31,8 +32,11 @@ its c =
 returns : tie.Need-returns
 returns c = let a = c .before .before .before .args in front-none (a .s .now) (a .at .0) (none-at (a .s .now) (a .at .0) _ (c .before .record-at .ensures) (c .match .keys2))
 
-add-head-fault : tie.Need-add-head-fault
-add-head-fault c = omega (arith, its (c .before .before .before) .level-is, its (c .before .before .before) .stands .level-high)
+add-below : tie.Need-add-below
+add-below c = omega (arith, its (c .before .before .before) .level-is, its (c .before .before .before) .stands .level-high)
+
+find-parts-requires : tie.Need-find-parts-requires
+find-parts-requires c κs = search needs
 
 body-requires : tie.Need-body-requires
 body-requires c κs = search needs
@@ -41,7 +45,7 @@ head-fault-requires : tie.Need-head-fault-requires
 head-fault-requires c κs = search needs
 
 returns-2 : tie.Need-returns-2
-returns-2 c = let d = c .before .before .before .before .before in front-judged _ _ (its d) _ (c .head-fault .ensures ∙ rw (c .before .body .ensures))
+returns-2 c = let d = c .before .before .before .before .before .before in front-judged _ _ (its d) _ (c .head-fault .ensures ∙ rw (c .before .body .ensures))
 
 pub judge-paragraph-spec : {M : Type 1} → statement M
 judge-paragraph-spec =
@@ -50,7 +54,8 @@ judge-paragraph-spec =
     record-at-requires
     enum-known-r
     returns
-    add-head-fault
+    add-below
+    find-parts-requires
     body-requires
     head-fault-requires
     returns-2)

@@ -12,9 +12,6 @@ use Rattle.judgement.proofs.rules.absent.Reads as absent-reads
 use Rattle.judgement.proofs.rules.length_fault.Reads as length-fault-reads
 use Rattle.judgement.proofs.rules.of_header.Reads as of-header-reads
 
-find-parts-requires : tie.Need-find-parts-requires
-find-parts-requires c κs = search needs
-
 absent-requires : tie.Need-absent-requires
 absent-requires c κs = search needs
 
@@ -22,7 +19,7 @@ of-header-requires : tie.Need-of-header-requires
 of-header-requires c κs = search needs
 
 returns : tie.Need-returns
-returns c = c .of-header .ensures ∙ parts-absent (c .before .before .before .before .before .args .s .now) (slice-bytes (c .before .before .before .before .before .args .s .now) (c .before .before .before .before .shared-slice-known .given)) _ _ _ (c .before .before .before .find-parts .ensures) _ _ (c .before .before .absent .ensures) (c .before .if1 .taken)
+returns c = let a = c .before .before .before .before in c .of-header .ensures ∙ parts-absent (a .args .s .now) (slice-bytes (a .args .s .now) (c .before .before .before .shared-slice-known .given)) _ _ _ (a .pre) _ _ (c .before .before .absent .ensures) (c .before .if1 .taken)
 
 length-fault-requires : tie.Need-length-fault-requires
 length-fault-requires c κs = search needs
@@ -34,19 +31,18 @@ enum-told : tie.Need-enum-told
 enum-told c = search needs
 
 body-fault-requires : tie.Need-body-fault-requires
-body-fault-requires c κs = controls-are (c .before .before .before .before .before .before .before .args .s .now) (slice-bytes (c .before .before .before .before .before .before .before .args .s .now) (c .before .before .before .before .before .before .shared-slice-known .given)) _ _ _ (c .before .before .before .before .before .find-parts .ensures)
+body-fault-requires c κs = let a = c .before .before .before .before .before .before in controls-are (a .args .s .now) (slice-bytes (a .args .s .now) (c .before .before .before .before .before .shared-slice-known .given)) _ _ _ (a .pre)
 
 returns-2 : tie.Need-returns-2
-returns-2 c = parts-lengths (c .before .before .before .before .before .before .before .before .args .s .now) (slice-bytes (c .before .before .before .before .before .before .before .before .args .s .now) (c .before .before .before .before .before .before .before .shared-slice-known .given)) _ _ _ (c .before .before .before .before .before .before .find-parts .ensures) _ _ (c .before .before .before .before .before .absent .ensures) _ (c .before .before .before .length-fault .ensures) (c .before .before .before .before .if1 .left) _ _ (c .before .fault .given .1)
+returns-2 c = let a = c .before .before .before .before .before .before .before in parts-lengths (a .args .s .now) (slice-bytes (a .args .s .now) (c .before .before .before .before .before .before .shared-slice-known .given)) _ _ _ (a .pre) _ _ (c .before .before .before .before .before .absent .ensures) _ (c .before .before .before .length-fault .ensures) (c .before .before .before .before .if1 .left) _ _ (c .before .fault .given .1)
 
 returns-3 : tie.Need-returns-3
-returns-3 c = parts-bodies (c .before .before .before .before .before .before .before .before .args .s .now) (slice-bytes (c .before .before .before .before .before .before .before .before .args .s .now) (c .before .before .before .before .before .before .before .shared-slice-known .given)) _ _ _ (c .before .before .before .before .before .before .find-parts .ensures) _ _ (c .before .before .before .before .before .absent .ensures) _ (c .before .before .before .length-fault .ensures) (c .before .before .before .before .if1 .left) _ (c .before .enum-told .given .1) (c .body-fault .ensures)
+returns-3 c = let a = c .before .before .before .before .before .before .before in parts-bodies (a .args .s .now) (slice-bytes (a .args .s .now) (c .before .before .before .before .before .before .shared-slice-known .given)) _ _ _ (a .pre) _ _ (c .before .before .before .before .before .absent .ensures) _ (c .before .before .before .length-fault .ensures) (c .before .before .before .before .if1 .left) _ (c .before .enum-told .given .1) (c .body-fault .ensures)
 
 pub parts-fault-spec : {M : Type 1} → statement M
 parts-fault-spec =
     tie.close
     (tie.spec
-    find-parts-requires
     absent-requires
     of-header-requires
     returns
