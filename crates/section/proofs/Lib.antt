@@ -1,3 +1,5 @@
+pub mod FirstLaws
+pub mod SlotLaws
 pub mod SeatLaws
 pub mod StrayLaws
 pub mod SectionLaws

@@ -1,4 +1,6 @@
 pub mod Parents
 pub mod Seats
 pub mod Section
+pub mod Windows
+pub mod Slots
 pub mod Promise

@@ -1,0 +1,170 @@
+-- The leaves of the gathering pass: what an entry names, a slot judged, noted and renewed. Assumes nothing.
+use Prim.Native.Nat.{ℕ, zero, suc, _+_, _-_, _*_, _≤_, _<_, min}
+use native.Mathlib.Omega.{arith}
+use mathlib.Core.Path.{_≡_, refl, sym, ap, ap₂, _∙_, subst}
+use mathlib.Core.Logic.{_⊎_, inl, inr}
+use mathlib.Core.Bool.{Bool, true, false, cond, _&&_}
+use mathlib.Core.List.{List, [], _∷_}
+use lib.Dec.{ltb, leb, eqb}
+use lib.ListN.{length, getD, set, drop, length-set}
+use borrow.Author.Tests.{lt-ltb, le-ltb, le-leb, lt-leb, eq-eqb, ne-eqb}
+use Rattle.records.specs.Records.{Rec, size}
+use Rattle.records.specs.Reading.{aheadOf}
+use Rattle.records.specs.declared.header.Record.{Record}
+use Rattle.records.specs.declared.header.Ahead.{Ahead}
+use Rattle.records.specs.declared.header.Ahead.the-variants as N
+use Rattle.records.proofs.ReadingLaws.{NoRecord}
+use Rattle.paragraph.specs.Stream.{recordsIn}
+use Rattle.paragraph.specs.Rules.{firstFault}
+use Rattle.paragraph.specs.Places.{partsIn}
+use Rattle.paragraph.specs.declared.children.Parts.{Parts}
+use Rattle.paragraph.specs.declared.children.Found.{Found}
+use Rattle.paragraph.specs.declared.children.Found.the-variants as P
+use Rattle.records.specs.declared.fault.Fault.{Fault}
+use Rattle.paragraph.specs.declared.finding.Which.{Which}
+use Rattle.paragraph.specs.declared.finding.Finding.{Finding}
+use Rattle.paragraph.specs.declared.finding.Finding.the-variants as G
+use Rattle.paragraph.proofs.StreamLaws.{Read}
+use Rattle.section.specs.Slots.{headOf, entry, foundAhead, partFound, partsOf, atFault, slotFault, slotsFault, Ended, more, noted, fresh, inWindow, notedIn, takenIn, ownFault}
+
+-- ---- what an entry names
+
+-- p is the place that the entry x names
+module _ (s : List ℕ) (x : ℕ) where
+  pub part-none : x ≡ 0 → P.Nothing ≡ partFound s x
+  unfolding partFound
+  part-none e = rw (eq-eqb x 0 e)
+
+  none-by : (a : Ahead) → NoRecord a → P.Nothing ≡ foundAhead a
+  none-by (N.Record r) (inl z) = absurd (let y : _≡_ {A = ℕ} 0 1 = z in omega arith)
+  none-by (N.Record r) (inr z) = absurd (let y : _≡_ {A = ℕ} 0 2 = z in omega arith)
+  none-by (N.Refused f) n = refl
+  none-by N.End n = refl
+
+  pub fault-empty : x ≡ 0 → length s ≡ slotFault s x
+  unfolding slotFault
+  fault-empty e = rw (eq-eqb x 0 e)
+
+  module _ (h : x ≡ 0 → ⊥) (p : ℕ) (is : p ≡ x - 1) where
+    pub part-lost : (a : Ahead) → a ≡ aheadOf 1023 s p → NoRecord a → P.Nothing ≡ partFound s x
+    unfolding partFound
+    part-lost a e n = rw (ne-eqb x 0 h, ← is) (none-by a n ∙ ap foundAhead e)
+
+    pub part-there : (r : Record) → aheadOf 1023 s p ≡ N.Record r → P.At r ≡ partFound s x
+    unfolding partFound
+    part-there r e = rw (ne-eqb x 0 h, ← is) (ap foundAhead (sym e))
+
+-- ---- a slot judged
+
+    pub fault-lost : recordsIn (drop p s) ≡ [] → length s ≡ slotFault s x
+    unfolding slotFault firstFault
+    fault-lost e = rw (ne-eqb x 0 h, ← is, e)
+
+    pub fault-none : (y : Finding) → y ≡ firstFault (recordsIn (drop p s)) → y ≡ G.Lawful → length s ≡ slotFault s x
+    unfolding slotFault
+    fault-none y e q = rw (ne-eqb x 0 h, ← is, ← e, q)
+
+    pub fault-there : (y : Finding) → y ≡ firstFault (recordsIn (drop p s)) → (f : Fault) (w : Which) → y ≡ G.Breach f w → p ≡ slotFault s x
+    unfolding slotFault
+    fault-there y e f w q = rw (ne-eqb x 0 h, ← is, ← e, q)
+
+-- what is noted in a slot whose paragraph has ended are its parts
+pub ended-parts : (s slots : List ℕ) (b p : ℕ) {r : Record} (y : Parts) → Ended s slots b → (headOf slots b ≡ 0 → ⊥) → p ≡ headOf slots b - 1 → Read s p r
+    → y ≡ partsOf s slots b → y ≡ partsIn (r .level + 1) (r .next .0) (recordsIn (drop (r .next .0) s))
+ended-parts s slots b p {r} y k h is d e =
+    let m : suc (d .rec .level) ≡ r .level + 1 = omega (arith, d .level-is) in
+    let q : headOf slots b - 1 + size (d .rec) ≡ r .next .0 = omega (arith, d .next-is) in
+    e ∙ k (d .rec) (recordsIn (drop (r .next .0) s)) h (ap (λ (i : ℕ). recordsIn (drop i s)) (sym is) ∙ d .records)
+    ∙ ap₂ (λ (n i : ℕ). partsIn n i (recordsIn (drop (r .next .0) s))) m q
+
+-- ---- noted and renewed
+
+module _ (tag place x : ℕ) where
+  pub more-control : tag ≡ 71 → x + 1 ≡ more tag place x
+  unfolding more
+  more-control e = rw (eq-eqb tag 71 e)
+
+  pub more-first : (tag ≡ 71 → ⊥) → x ≡ 0 → place ≡ more tag place x
+  unfolding more
+  more-first h e = rw (ne-eqb tag 71 h, eq-eqb x 0 e)
+
+  pub more-later : (tag ≡ 71 → ⊥) → (x ≡ 0 → ⊥) → x ≡ more tag place x
+  unfolding more
+  more-later h e = rw (ne-eqb tag 71 h, ne-eqb x 0 e)
+
+module _ (slots : List ℕ) (b tag place : ℕ) where
+  pub noted-empty : headOf slots b ≡ 0 → slots ≡ noted slots b tag place
+  unfolding noted
+  noted-empty e = rw (eq-eqb (headOf slots b) 0 e)
+
+  module _ (h : headOf slots b ≡ 0 → ⊥) where
+    pub noted-low : tag < 67 → slots ≡ noted slots b tag place
+    unfolding noted
+    noted-low q = rw (ne-eqb (headOf slots b) 0 h, lt-leb 67 tag q)
+
+    pub noted-high : 67 ≤ tag → 71 < tag → slots ≡ noted slots b tag place
+    unfolding noted
+    noted-high p q = rw (ne-eqb (headOf slots b) 0 h, le-leb 67 tag p, lt-leb tag 71 q)
+
+    pub noted-there : 67 ≤ tag → tag ≤ 71 → (k v : ℕ) → k ≡ tag - 66 → v ≡ more tag place (entry slots b k) → set slots (b + k) v ≡ noted slots b tag place
+    unfolding noted
+    noted-there p q k v e f = rw (ne-eqb (headOf slots b) 0 h, le-leb 67 tag p, le-leb tag 71 q, f, e)
+
+-- ---- all slots
+
+pub slots-end : (s slots : List ℕ) → length s ≡ slotsFault s slots 0
+unfolding slotsFault
+slots-end s slots = refl
+
+pub slots-next : (s slots : List ℕ) (i first x : ℕ) → first ≡ slotsFault s slots i → x ≡ slotFault s (headOf slots (6 * i)) → min first x ≡ slotsFault s slots (i + 1)
+unfolding slotsFault
+slots-next s slots i first x e q = let z : i + 1 ≡ suc i = omega arith in rw (e, q, z)
+
+pub slots-all : (s slots : List ℕ) (i first : ℕ) → first ≡ slotsFault s slots i → i ≤ 64 → (i < 64 → ⊥) → first ≡ slotsFault s slots 64
+slots-all s slots i first e h k = let z : i ≡ 64 = omega arith in e ∙ ap (slotsFault s slots) z
+
+-- ---- in a window, whose slot for level n has the index m
+
+module _ (lo n : ℕ) where
+  pub in-low : n < lo → inWindow lo n ≡ false
+  in-low h = rw (lt-leb lo n h)
+
+  module _ (m : ℕ) (is : m ≡ n - lo) (h : lo ≤ n) where
+    pub in-high : 64 ≤ m → inWindow lo n ≡ false
+    in-high q = rw (le-leb lo n h, le-ltb n (lo + 64) (omega arith))
+
+    pub in-window : m < 64 → inWindow lo n ≡ true
+    in-window q = rw (le-leb lo n h, lt-ltb n (lo + 64) (omega arith))
+
+module _ (lo : ℕ) (slots : List ℕ) (tag n place : ℕ) where
+  pub noted-outside : inWindow lo n ≡ false → slots ≡ notedIn lo slots tag n place
+  unfolding notedIn
+  noted-outside e = rw e
+
+  pub taken-outside : inWindow lo n ≡ false → slots ≡ takenIn lo slots tag n place
+  unfolding takenIn
+  taken-outside e = rw e
+
+  pub own-outside : (s : List ℕ) → inWindow lo n ≡ false → length s ≡ ownFault s lo slots n
+  unfolding ownFault
+  own-outside s e = rw e
+
+  module _ (m : ℕ) (is : m ≡ n - lo) (e : inWindow lo n ≡ true) where
+    pub noted-inside : noted slots (6 * m) tag place ≡ notedIn lo slots tag n place
+    unfolding notedIn
+    noted-inside = rw (e, is)
+
+    pub taken-header : tag ≡ 66 → fresh slots (6 * m) place ≡ takenIn lo slots tag n place
+    unfolding takenIn
+    taken-header t = rw (e, is, eq-eqb tag 66 t)
+
+    pub taken-other : (tag ≡ 66 → ⊥) → fresh slots (6 * m) 0 ≡ takenIn lo slots tag n place
+    unfolding takenIn
+    taken-other t = rw (e, is, ne-eqb tag 66 t)
+
+    pub own-inside : (s : List ℕ) → slotFault s (headOf slots (6 * m)) ≡ ownFault s lo slots n
+    unfolding ownFault
+    own-inside s = rw (e, is)
+
+    pub own-ended : (s : List ℕ) → (lo ≤ n → n < lo + 64 → Ended s slots (6 * (n - lo))) → lo ≤ n → m < 64 → Ended s slots (6 * m)
+    own-ended s k h q = subst (λ (i : ℕ). Ended s slots (6 * i)) (sym is) (k h (omega arith))

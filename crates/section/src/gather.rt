@@ -1,0 +1,226 @@
+// The paragraphs of a window of 64 levels in one pass: where the parts of each stand is noted until it ends, and then it is judged. A section
+// of ten levels takes one pass, however its paragraphs are nested; one of 1,000 takes sixteen.
+use judgement::head_fault;
+use numbers::lesser;
+use numbers::wide;
+use paragraph::Finding;
+use paragraph::Found;
+use paragraph::Parts;
+use paragraph::body;
+use records::Ahead;
+use records::Kind;
+use records::Offset;
+use records::record_at;
+ghost use mathlib.Core.Path.{_≡_};
+ghost use mathlib.Core.Bool.{cond};
+ghost use lib.Dec.{ltb};
+ghost use mathlib.Core.Option.{none};
+ghost use Prim.Native.Nat.{ℕ, _+_, _-_, _*_, _≤_, _<_};
+ghost use lib.ListN.{length, getD};
+ghost use Rattle.records.specs.Records.{limit};
+ghost use Rattle.records.specs.Reading.{readAll};
+ghost use Rattle.paragraph.specs.Stream.{recordsIn};
+ghost use Rattle.section.specs.Slots.{headOf, entry, partFound, partsOf, slotFault, slotsFault, Ended, more, noted, fresh, notedIn, takenIn, ownFault, deepestFrom, faultIn};
+
+// The record that an entry names.
+fn part_at(s: &[u8], entry: u32) -> Found
+    ensures { λ r. ⌜ r ≡ partFound (now (s .entry)) entry ⌝ }
+{
+    if entry == 0 {
+        return Found::Nothing;
+    }
+    let Ahead::Record(r) = record_at(s, Offset(wide(entry - 1)), 1023) else {
+        return Found::Nothing;
+    };
+    Found::At(r)
+}
+
+// The parts that are noted in the slot that begins at b.
+fn parts_in(s: &[u8], slots: &[u32], b: usize) -> Parts
+    requires { ⌜ b + 6 ≤ length (now slots) ⌝ }
+    ensures { λ r. ⌜ r ≡ partsOf (now (s .entry)) (now (slots .entry)) b ⌝ }
+{
+    let text = part_at(s, slots[b + 1]);
+    let shapes = part_at(s, slots[b + 2]);
+    let layout = part_at(s, slots[b + 3]);
+    let marks = part_at(s, slots[b + 4]);
+    let controls = wide(slots[b + 5]);
+    Parts {
+        text,
+        shapes,
+        layout,
+        marks,
+        controls,
+    }
+}
+
+// The place of the paragraph in a slot if it is at fault, else the length of the stream.
+fn judge_slot(s: &[u8], slots: &[u32], b: usize) -> usize
+    requires { ⌜ b + 6 ≤ length (now slots) ⌝ }
+    requires { ⌜ Ended (now s) (now slots) b ⌝ }
+    ensures { λ r. ⌜ r ≡ slotFault (now (s .entry)) (headOf (now (slots .entry)) b) ⌝ }
+{
+    let header = slots[b];
+    if header == 0 {
+        return s.len();
+    }
+    let at = wide(header - 1);
+    let Ahead::Record(r) = record_at(s, Offset(at), 1023) else {
+        return s.len();
+    };
+    let behind = r.next;
+    let below = r.level + 1;
+    let p = parts_in(s, slots, b);
+    match head_fault(s, behind, below, body(s, r), p) {
+        Finding::Lawful => s.len(),
+        Finding::Breach { fault: _, which: _ } => at,
+    }
+}
+
+// An entry with one more record of its tag.
+fn with_one(tag: u32, place: u32, x: u32) -> u32
+    requires { ⌜ x < 4294967295 ⌝ }
+    ensures { λ r. ⌜ r ≡ more tag place x ⌝ }
+{
+    if tag == Kind::CONTROL_HEADER {
+        return x + 1;
+    }
+    if x == 0 { place } else { x }
+}
+
+// Notes a record with its parent's paragraph, if that is one.
+fn note(slots: &mut [u32], b: usize, tag: u32, place: u32)
+    requires { ⌜ b + 6 ≤ length (now slots) ⌝ }
+    requires { ⌜ ((i : ℕ) → getD (now slots) i 0 < 4294967295) ⌝ }
+    ensures { λ _. ⌜ now (slots .exit) ≡ noted (now (slots .entry)) b tag place ⌝ }
+{
+    if slots[b] == 0 {
+        return;
+    }
+    if tag < Kind::TEXT {
+        return;
+    }
+    if Kind::CONTROL_HEADER < tag {
+        return;
+    }
+    let at = b + wide(tag - Kind::PARAGRAPH_HEADER);
+    slots[at] = with_one(tag, place, slots[at]);
+}
+
+// A slot anew, with the paragraph header at a place, or with none.
+fn renew(slots: &mut [u32], b: usize, x: u32)
+    requires { ⌜ b + 6 ≤ length (now slots) ⌝ }
+    ensures { λ _. ⌜ now (slots .exit) ≡ fresh (now (slots .entry)) b x ⌝ }
+{
+    slots[b] = x;
+    slots[b + 1] = 0;
+    slots[b + 2] = 0;
+    slots[b + 3] = 0;
+    slots[b + 4] = 0;
+    slots[b + 5] = 0;
+}
+
+// A record at a level with its parent's paragraph, where the window has that.
+fn note_child(slots: &mut [u32], lo: u32, tag: u32, level: u32, place: u32)
+    requires { ⌜ length (now slots) ≡ 384 ⌝ }
+    requires { ⌜ ((i : ℕ) → getD (now slots) i 0 < 4294967295) ⌝ }
+    ensures { λ _. ⌜ now (slots .exit) ≡ notedIn lo (now (slots .entry)) tag level place ⌝ }
+{
+    if level < lo {
+        return;
+    }
+    let i = wide(level - lo);
+    if 64 <= i {
+        return;
+    }
+    note(slots, 6 * i, tag, place);
+}
+
+// A record takes its own slot, where the window has one for it: the paragraph that stood there has ended, and is judged.
+fn take_own(s: &[u8], slots: &mut [u32], lo: u32, tag: u32, below: u32, place: u32) -> usize
+    requires { ⌜ length (now slots) ≡ 384 ⌝ }
+    requires { ⌜ (lo ≤ below → below < lo + 64 → Ended (now s) (now slots) (6 * (below - lo))) ⌝ }
+    ensures { λ r. ⌜ (r ≡ ownFault (now (s .entry)) lo (now (slots .entry)) below) × (now (slots .exit) ≡ takenIn lo (now (slots .entry)) tag below place) ⌝ }
+{
+    if below < lo {
+        return s.len();
+    }
+    let i = wide(below - lo);
+    if 64 <= i {
+        return s.len();
+    }
+    let fault = judge_slot(s, slots, 6 * i);
+    if tag == Kind::PARAGRAPH_HEADER {
+        renew(slots, 6 * i, place);
+    } else {
+        renew(slots, 6 * i, 0);
+    }
+    fault
+}
+
+// The paragraphs that are in their slots where the stream ends.
+fn judge_slots(s: &[u8], slots: &[u32]) -> usize
+    requires { ⌜ length (now slots) ≡ 384 ⌝ }
+    requires { ⌜ ((i : ℕ) → i < 64 → Ended (now s) (now slots) (6 * i)) ⌝ }
+    ensures { λ r. ⌜ r ≡ slotsFault (now (s .entry)) (now (slots .entry)) 64 ⌝ }
+{
+    let mut first = s.len();
+    let mut i: usize = 0;
+    while i < 64 {
+        first = lesser(first, judge_slot(s, slots, 6 * i));
+        i = i + 1;
+    }
+    first
+}
+
+// The greater of two levels.
+fn deeper(a: u32, b: u32) -> u32
+    ensures { λ r. ⌜ r ≡ cond (ltb a b) b a ⌝ }
+{
+    if a < b { b } else { a }
+}
+
+// What one pass finds: the place of the first paragraph at fault whose level is in the window, or the length of the stream; and how deep
+// the records go.
+pub struct Gathered {
+    pub first: usize,
+    pub deepest: u32,
+}
+
+fn gather(s: &[u8], lo: u32) -> Gathered
+    requires { ⌜ (length (now s) ≤ limit) × (readAll (now s) .stop ≡ none) × (lo ≤ 1024) ⌝ }
+    ensures { λ r. ⌜ (r .first ≡ faultIn lo (lo + 64) (now (s .entry))) × (r .deepest ≡ deepestFrom 0 (recordsIn (now (s .entry)))) ⌝ }
+{
+    let mut slots = [0u32; 384];
+    let mut at = Offset(0);
+    let mut first = s.len();
+    let mut deepest: u32 = 0;
+    loop {
+        let Ahead::Record(r) = record_at(s, at, 1023) else {
+            break;
+        };
+        let place = (at.0 + 1) as u32;
+        note_child(&mut slots, lo, r.tag, r.level, place);
+        first = lesser(first, take_own(s, &mut slots, lo, r.tag, r.level + 1, place));
+        deepest = deeper(deepest, r.level);
+        at = r.next;
+    }
+    first = lesser(first, judge_slots(s, &slots));
+    Gathered { first, deepest }
+}
+
+// The place of the first paragraph at fault, or the length of the stream: a window behind the other, as deep as the records go.
+pub fn first_at_fault(s: &[u8]) -> usize
+    requires { ⌜ (length (now s) ≤ limit) × (readAll (now s) .stop ≡ none) ⌝ }
+    ensures { λ r. ⌜ r ≡ faultIn 0 1025 (now (s .entry)) ⌝ }
+{
+    let g = gather(s, 0);
+    let mut first = g.first;
+    let mut lo: u32 = 64;
+    while lo <= g.deepest + 1 {
+        let h = gather(s, lo);
+        first = lesser(first, h.first);
+        lo = lo + 64;
+    }
+    first
+}
