@@ -39,7 +39,7 @@ joined a b =
     }
 
 -- the parts with one more child, by its tag
-unfoldable taken : Parts → Record → Parts
+unfoldable pub taken : Parts → Record → Parts
 taken a p =
     record {
       text = takenAs (a .text) (eqb (p .tag) 67) p;
@@ -175,8 +175,8 @@ module _ {s : List ℕ} {n from at : ℕ} {a : Parts} {r : Record} (k : Gatherin
         rest = here ∙ ap (joined a) (parts-passed n at (d .rec) (recordsIn (drop (r .next .0) s)) (sym to ∙ e)) ∙ behind a;
       }
 
-  owned-with : side-of ≡ S.Owned → Gathering s n from (taken a r) (r .next .0)
-  owned-with e =
+  pub gather-child : side-of ≡ S.Owned → Gathering s n from (taken a r) (r .next .0)
+  gather-child e =
       record {
         few = omega (arith, k .few, at-most a r, d .next-is, d .least);
         rest =
@@ -190,7 +190,7 @@ module _ {s : List ℕ} {n from at : ℕ} {a : Parts} {r : Record} (k : Gatherin
       → m ≡ takenAs (a .marks) (eqb (r .tag) 70) r → c ≡ a .controls + cond (eqb (r .tag) 71) 1 0
       → Gathering s n from (record { text = t; shapes = h; layout = l; marks = m; controls = c }) (r .next .0)
   unfolding taken
-  gather-owned e ts hs ls ms cs = subst (λ (p : Parts). Gathering s n from p (r .next .0)) (sym (same-parts ts hs ls ms cs)) (owned-with e)
+  gather-owned e ts hs ls ms cs = subst (λ (p : Parts). Gathering s n from p (r .next .0)) (sym (same-parts ts hs ls ms cs)) (gather-child e)
 
   -- it is the text, and none of the others; and so on
   no-control : (r .tag ≡ 71 → ⊥) → a .controls ≡ a .controls + cond (eqb (r .tag) 71) 1 0

@@ -1,5 +1,6 @@
 pub mod FirstLaws
 pub mod SlotLaws
+pub mod GatherLaws
 pub mod SeatLaws
 pub mod StrayLaws
 pub mod SectionLaws

@@ -188,7 +188,7 @@ pub struct Gathered {
 }
 
 fn gather(s: &[u8], lo: u32) -> Gathered
-    requires { ⌜ (length (now s) ≤ limit) × (readAll (now s) .stop ≡ none) × (lo ≤ 1024) ⌝ }
+    requires { ⌜ (length (now s) ≤ limit) × (readAll (now s) .stop ≡ none) ⌝ }
     ensures { λ r. ⌜ (r .first ≡ faultIn lo (lo + 64) (now (s .entry))) × (r .deepest ≡ deepestFrom 0 (recordsIn (now (s .entry)))) ⌝ }
 {
     let mut slots = [0u32; 384];

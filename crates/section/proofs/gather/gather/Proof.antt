@@ -1,3 +1,14 @@
+-- One pass finds what is first at fault in its window, and how deep the records go. Assumes nothing.
+use borrow.Author.Needs.{needs}
+use native.Mathlib.Omega.{arith}
+use Prim.Native.Nat.{ℕ, _+_, _-_, _<_}
+use mathlib.Core.Path.{_≡_, sym, _∙_}
+use lib.ListN.{length, length-replicate}
+use Rattle.numbers.proofs.LittleLaws.{slice-bytes}
+use Rattle.records.specs.Reading.{aheadOf}
+use Rattle.records.specs.declared.header.Ahead.the-variants as N
+use Rattle.paragraph.proofs.StreamLaws.{Read, read-at, none-at}
+use Rattle.section.proofs.GatherLaws.{Gathers, zeros, gathers-start, gathers-place, gathers-few, gathers-taken, gathers-step, gathers-last, gathers-first, gathers-deepest}
 use Rattle.section.proofs.gather.gather.Statement.{statement}
 use Rattle.section.proofs.gather.gather.Tie as tie
 use Rattle.section.proofs.gather.gather.Reads as reads
@@ -10,82 +21,77 @@ use Rattle.section.proofs.gather.note_child.Reads as note-child-reads
 use Rattle.section.proofs.gather.take_own.Reads as take-own-reads
 
 abbrev Inv-loop : tie.InvT-loop
-Inv-loop s lo slots₀ at₀ first₀ deepest₀ slots at first deepest = ?
+Inv-loop s lo slots₀ at₀ first₀ deepest₀ slots at first deepest = Gathers s lo slots (at .0) first deepest
 
 abbrev μ-loop : tie.MeasureT-loop
-μ-loop s lo slots₀ at₀ first₀ deepest₀ slots at first deepest = ?
+μ-loop s lo slots₀ at₀ first₀ deepest₀ slots at first deepest = length s - at .0
 
--- src/gather.rt:198:5
 loop-holds : tie.Need-loop-holds Inv-loop μ-loop
-loop-holds c = ?
+loop-holds c = gathers-start _ _ _ (slice-bytes (c .before .args .s .now) (c .shared-slice-known .given)) (c .before .pre .0) (c .before .pre .1) (length-replicate {A = ℕ} 384 0) (zeros 384)
 
--- src/gather.rt:199:32
 record-at-requires : tie.Need-record-at-requires Inv-loop μ-loop
-record-at-requires c κs = ?
+record-at-requires c κs = search needs
 
--- src/gather.rt:199:27
 enum-known-r : tie.Need-enum-known-r Inv-loop μ-loop
-enum-known-r c = ?
+enum-known-r c = search needs
 
--- src/gather.rt:202:22
+-- at a record: the loop's head, what stands there, and what is known of it
+abbrev head : tie.After-r Inv-loop μ-loop → tie.At-loop Inv-loop μ-loop
+head c = c .before .before .before
+
+stood : (c : tie.After-r Inv-loop μ-loop) → aheadOf 1023 (head c .before .before .args .s .now) (head c .loop .at .0) ≡ N.Record (c .r .given .0 .0)
+stood c = sym (c .before .before .record-at .ensures) ∙ c .r .given .1
+
+its : (c : tie.After-r Inv-loop μ-loop) → Read (head c .before .before .args .s .now) (head c .loop .at .0) (c .r .given .0 .0)
+its c = read-at _ _ (slice-bytes (head c .before .before .args .s .now) (head c .before .shared-slice-known .given)) _ (stood c)
+
+small : (c : tie.After-r Inv-loop μ-loop) → head c .loop .at .0 + 1 < 4294967296
+small c = gathers-place (head c .loop .inv) (stood c) (its c)
+
 add-place : tie.Need-add-place Inv-loop μ-loop
-add-place c = ?
+add-place c = omega (arith, small (c .before .before))
 
--- src/gather.rt:202:21
 cast-place : tie.Need-cast-place Inv-loop μ-loop
-cast-place c = ?
+cast-place c = omega (arith, small (c .before .before))
 
--- src/gather.rt:203:20
 slice-aggregate-note-child : tie.Need-slice-aggregate-note-child Inv-loop μ-loop
-slice-aggregate-note-child c = ?
+slice-aggregate-note-child c = search needs
 
--- src/gather.rt:203:9
 note-child-requires : tie.Need-note-child-requires Inv-loop μ-loop
-note-child-requires c κs = ?
+note-child-requires c κs = (c .before .before .before .before .before .before .loop .inv .long, gathers-few (c .before .before .before .before .before .before .loop .inv))
 
--- src/gather.rt:204:43
 slice-aggregate-take-own : tie.Need-slice-aggregate-take-own Inv-loop μ-loop
-slice-aggregate-take-own c = ?
+slice-aggregate-take-own c = search needs
 
--- src/gather.rt:204:66
 add-take-own : tie.Need-add-take-own Inv-loop μ-loop
-add-take-own c = ?
+add-take-own c = omega (arith, its (c .before .before .before .before .before .before .before) .level-is, its (c .before .before .before .before .before .before .before) .stands .level-high)
 
--- src/gather.rt:204:31
 take-own-requires : tie.Need-take-own-requires Inv-loop μ-loop
-take-own-requires c κs = ?
+take-own-requires c κs = let d = c .before .before .before .before .before .before .before in gathers-taken (head d .loop .inv) (stood d) (its d) _ (c .before .before .before .note-child .ensures)
 
--- src/gather.rt:204:9
 lesser-requires : tie.Need-lesser-requires Inv-loop μ-loop
-lesser-requires c κs = ?
+lesser-requires c κs = search needs
 
--- src/gather.rt:205:9
 deeper-requires : tie.Need-deeper-requires Inv-loop μ-loop
-deeper-requires c κs = ?
+deeper-requires c κs = search needs
 
--- src/gather.rt:198:5
 loop-less : tie.Need-loop-less Inv-loop μ-loop
-loop-less c = ?
+loop-less c = let d = c .before .before .before .before .before .before .before .before .before .before .before .before in omega (arith, its d .next-is, its d .stands .inside, its d .least)
 
--- src/gather.rt:198:5
 loop-again : tie.Need-loop-again Inv-loop μ-loop
-loop-again c = ?
+loop-again c = let d = c .before .before .before .before .before .before .before .before .before .before .before .before in gathers-step (head d .loop .inv) (stood d) (its d) _ _ _ _ _ (c .before .before .before .before .before .before .before .before .note-child .ensures) (c .before .before .before .before .take-own .ensures .0) (c .before .before .before .before .take-own .ensures .1) (c .before .before .lesser .ensures) (c .before .deeper .ensures)
 
--- src/gather.rt:208:42
 slice-aggregate-judge-slots : tie.Need-slice-aggregate-judge-slots Inv-loop μ-loop
-slice-aggregate-judge-slots c = ?
+slice-aggregate-judge-slots c = search needs
 
--- src/gather.rt:208:27
 judge-slots-requires : tie.Need-judge-slots-requires Inv-loop μ-loop
-judge-slots-requires c κs = ?
+judge-slots-requires c κs = let l = c .before .before .before in (l .loop .inv .long, gathers-last (l .loop .inv) (none-at _ _ _ (c .before .before .record-at .ensures) (c .before .match .keys2)))
 
--- src/gather.rt:208:5
 lesser-requires-2 : tie.Need-lesser-requires-2 Inv-loop μ-loop
-lesser-requires-2 c κs = ?
+lesser-requires-2 c κs = search needs
 
--- src/gather.rt:190:1
 returns : tie.Need-returns Inv-loop μ-loop
-returns c = ?
+returns c = let l = c .before .before .before .before .before in let e = none-at (l .before .before .args .s .now) (l .loop .at .0) _ (c .before .before .before .before .record-at .ensures) (c .before .before .before .match .keys2) in (c .lesser2 .ensures ∙ gathers-first (l .loop .inv) e _ (c .before .judge-slots .ensures), gathers-deepest (l .loop .inv) e)
 
 pub gather-spec : {M : Type 1} → statement M
 gather-spec =
