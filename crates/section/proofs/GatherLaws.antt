@@ -322,8 +322,11 @@ module _ (s : List ℕ) (lo at : ℕ) (r : Record) (ahead : aheadOf 1023 s at �
         → Parted s (lo + own) (r .level) from (partsOf s (set slots (mine + (r .tag - 66)) (more (r .tag) (at + 1) (entry slots mine (r .tag - 66)))) mine) (r .next .0)
     child-by t u n (inr (c, g)) = absurd (omega arith)
     child-by t u {from} n (inl (c, g)) =
-        inl (omega arith, subst (λ (p : Parts). Gathering s (lo + own) from p (r .next .0)) (sym (parts-noted s at r ahead slots mine (omega (arith, long)) t u n))
-        (gather-child g d (side-owned (lo + own) (r .tag) (r .level) its-level t u)))
+        inl (
+          omega arith,
+          subst (λ (p : Parts). Gathering s (lo + own) from p (r .next .0)) (sym (parts-noted s at r ahead slots mine (omega (arith, long)) t u n))
+              (gather-child g d (side-owned (lo + own) (r .tag) (r .level) its-level t u)),
+        )
 
     is-noted : (headOf slots mine ≡ 0 → ⊥) → 67 ≤ r .tag → r .tag ≤ 71 → Holds s lo cap slots own at
         → Holds s lo (r .level) (set slots (mine + (r .tag - 66)) (more (r .tag) (at + 1) (entry slots mine (r .tag - 66)))) own (r .next .0)
@@ -505,9 +508,11 @@ module _ (s : List ℕ) (lo at : ℕ) (r : Record) (d : Read s at r) (slots : Li
           level-is = omega (arith, d .level-is);
           named = λ k p q. inl (fresh-entry slots (6 * own-slot) taken-as room-for k p q);
           parts =
-              inl (omega arith,
-              subst (λ (p : Parts). Gathering s (lo + own-slot) (at + size (d .rec)) p (r .next .0)) (sym (fresh-parts slots (6 * own-slot) taken-as room-for s))
-              (subst (λ (n : ℕ). Gathering s (lo + own-slot) (at + size (d .rec)) nothing n) (sym (d .next-is)) (gather-start s (lo + own-slot) (at + size (d .rec)))));
+              inl (
+                omega arith,
+                subst (λ (p : Parts). Gathering s (lo + own-slot) (at + size (d .rec)) p (r .next .0)) (sym (fresh-parts slots (6 * own-slot) taken-as room-for s))
+                    (subst (λ (n : ℕ). Gathering s (lo + own-slot) (at + size (d .rec)) nothing n) (sym (d .next-is)) (gather-start s (lo + own-slot) (at + size (d .rec)))),
+              );
         }
 
     own-taken : (r .tag ≡ 66) ⊎ (r .tag ≡ 66 → ⊥) → Holds s lo (r .level + 1) then own-slot (r .next .0)

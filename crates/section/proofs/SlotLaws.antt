@@ -54,7 +54,7 @@ module _ (s : List ℕ) (x : ℕ) where
     unfolding partFound
     part-there r e = rw (ne-eqb x 0 h, ← is) (ap foundAhead (sym e))
 
--- ---- a slot judged
+    -- ---- a slot judged
 
     pub fault-lost : recordsIn (drop p s) ≡ [] → length s ≡ slotFault s x
     unfolding slotFault firstFault

@@ -1,3 +1,11 @@
+-- A window behind the other finds what is first at fault of all. Assumes nothing.
+use borrow.Author.Needs.{needs}
+use native.Mathlib.Omega.{arith}
+use Prim.Native.Nat.{_-_, _≤_, _<_}
+use mathlib.Core.Path.{_≡_, _∙_}
+use Rattle.numbers.proofs.LittleLaws.{slice-bytes}
+use Rattle.section.specs.Slots.{faultIn}
+use Rattle.section.proofs.ParagraphLaws.{windows-next, windows-all, read-deepest}
 use Rattle.section.proofs.gather.first_at_fault.Statement.{statement}
 use Rattle.section.proofs.gather.first_at_fault.Tie as tie
 use Rattle.section.proofs.gather.first_at_fault.Reads as reads
@@ -6,46 +14,43 @@ use Rattle.numbers.proofs.lesser.Reads as lesser-reads
 use Rattle.section.proofs.gather.gather.Reads as gather-reads
 
 abbrev Inv-loop : tie.InvT-loop
-Inv-loop s g first₀ lo₀ first lo = ?
+Inv-loop s g first₀ lo₀ first lo = (lo ≤ 1088) × (first ≡ faultIn 0 lo s)
 
 abbrev μ-loop : tie.MeasureT-loop
-μ-loop s g first₀ lo₀ first lo = ?
+μ-loop s g first₀ lo₀ first lo = 2048 - lo
 
--- src/gather.rt:217:9
 gather-requires : tie.Need-gather-requires Inv-loop μ-loop
-gather-requires c κs = ?
+gather-requires c κs = search needs
 
--- src/gather.rt:220:5
+-- how deep the records go
+low : (c : tie.After-gather Inv-loop μ-loop) → c .gather .result .deepest < 1024
+low c =
+    let a = c .before .before in
+    read-deepest (a .args .s .now) (slice-bytes (a .args .s .now) (c .before .shared-slice-known .given)) (a .pre .1) _ (c .gather .ensures .1)
+
 loop-holds : tie.Need-loop-holds Inv-loop μ-loop
-loop-holds c = ?
+loop-holds c = (omega arith, c .gather .ensures .0)
 
--- src/gather.rt:220:17
 add-if1 : tie.Need-add-if1 Inv-loop μ-loop
-add-if1 c = ?
+add-if1 c = omega (arith, low (c .before .before))
 
--- src/gather.rt:221:13
 gather-requires-2 : tie.Need-gather-requires-2 Inv-loop μ-loop
-gather-requires-2 c κs = ?
+gather-requires-2 c κs = search needs
 
--- src/gather.rt:222:9
 lesser-requires : tie.Need-lesser-requires Inv-loop μ-loop
-lesser-requires c κs = ?
+lesser-requires c κs = search needs
 
--- src/gather.rt:223:14
 add-lo : tie.Need-add-lo Inv-loop μ-loop
-add-lo c = ?
+add-lo c = omega (arith, low (c .before .before .before .before .before), c .before .before .if1 .taken)
 
--- src/gather.rt:220:5
 loop-less : tie.Need-loop-less Inv-loop μ-loop
-loop-less c = ?
+loop-less c = omega (arith, low (c .before .before .before .before .before), c .before .before .if1 .taken)
 
--- src/gather.rt:220:5
 loop-again : tie.Need-loop-again Inv-loop μ-loop
-loop-again c = ?
+loop-again c = (omega (arith, low (c .before .before .before .before .before), c .before .before .if1 .taken), c .lesser .ensures ∙ windows-next _ _ _ _ (c .before .before .before .before .loop .inv .1) (c .before .gather2 .ensures .0))
 
--- src/gather.rt:213:1
 returns : tie.Need-returns Inv-loop μ-loop
-returns c = ?
+returns c = let g = c .before .before .before in windows-all _ _ _ (c .before .before .loop .inv .1) (omega (arith, g .gather .ensures .1, low g)) (omega (arith, g .gather .ensures .1, c .if1 .left))
 
 pub first-at-fault-spec : {M : Type 1} → statement M
 first-at-fault-spec =

@@ -1,4 +1,6 @@
 -- Read's answer, then the rules. Assumes nothing.
+use mathlib.Core.Path.{sym, _∙_}
+use Rattle.records.proofs.ScanLaws.{accepted}
 use Rattle.numbers.proofs.LittleLaws.{slice-bytes}
 use Rattle.section.proofs.SectionLaws.{answer-rules, answer-refused}
 use borrow.Author.Needs.{needs}
@@ -16,7 +18,7 @@ enum-known-n : tie.Need-enum-known-n
 enum-known-n c = search needs
 
 judge-section-requires : tie.Need-judge-section-requires
-judge-section-requires c κs = search needs
+judge-section-requires c κs = let k = accepted (c .before .before .before .before .before .args .s .now) _ _ (sym (c .before .before .before .scan .ensures) ∙ c .before .n .given .1) in (k .small, k .whole)
 
 enum-known-r : tie.Need-enum-known-r
 enum-known-r c = search needs
