@@ -1,4 +1,5 @@
 pub mod SeatLaws
+pub mod FirstLaws
 pub mod StrayLaws
 pub mod SectionLaws
 pub mod NearLaws

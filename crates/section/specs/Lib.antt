@@ -1,4 +1,5 @@
 pub mod Parents
 pub mod Seats
+pub mod Windows
 pub mod Section
 pub mod Promise
