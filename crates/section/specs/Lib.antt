@@ -1,5 +1,6 @@
 pub mod Parents
 pub mod Seats
 pub mod Windows
+pub mod Sweeps
 pub mod Section
 pub mod Promise
