@@ -1,7 +1,7 @@
 -- The number kept for a level says what rule 9 asks of the records there. Assumes nothing.
 use Prim.Native.Nat.{ℕ, _+_, _-_, _*_, _/_, _%_, _≤_, _<_}
 use native.Mathlib.Omega.{arith}
-use native.Mathlib.Nat.{div-div-eq-div-mul}
+use native.Mathlib.Nat.{div-div-eq-div-mul, zero-add}
 use mathlib.Core.Path.{_≡_, refl, sym, ap, _∙_, subst}
 use mathlib.Core.Logic.{_⊎_, inl, inr}
 use mathlib.Core.Bool.{Bool, true, false, cond, _&&_, _||_}
@@ -231,6 +231,15 @@ module _ (code : ℕ) (r : Rec) (e : List Rec) where
   seating (under-leaf q p) = under-a-leaf q p
   seating (elsewhere q p h) = elsewhere-by q p h (leaf (r .tag)) refl
   seating (under-header q p h k) = under-by q p h k (leaf (r .tag)) refl
+
+-- with 0 any record takes its seat
+free-by : (t : ℕ) (l : Bool) → leaf t ≡ l → seatOf 0 t ≡ T.Seated (cond l (bitOf t) 0)
+unfolding seatOf seatLeaf
+free-by t true l = rw (l, bits-none (leaf-of t l)) (ap T.Seated (zero-add (bitOf t)))
+free-by t false l = rw l
+
+pub seat-free : (t : ℕ) → seatOf 0 t ≡ T.Seated (cond (leaf t) (bitOf t) 0)
+seat-free t = free-by t (leaf t) refl
 
 -- ---- the leaves of the code
 

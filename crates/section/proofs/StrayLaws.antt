@@ -1,92 +1,130 @@
--- The pass of rule 9: what is still to be judged where it has come to some place. Assumes nothing.
-use Prim.Native.Nat.{ℕ, _+_, _-_, _≤_, _<_}
+-- A pass of rule 9 over a window of levels: what is still to be judged where it has come to some place. Assumes nothing.
+use Prim.Native.Nat.{ℕ, _+_, _≤_, _<_, max}
 use native.Mathlib.Omega.{arith}
 use mathlib.Core.Path.{_≡_, refl, sym, ap, ap₂, _∙_, subst}
 use mathlib.Core.Logic.{_⊎_, inl, inr}
-use mathlib.Core.Bool.{true, false}
-use mathlib.Core.Option.{some}
+use mathlib.Core.Bool.{Bool, true, false, cond, _&&_}
 use mathlib.Core.List.{List, [], _∷_}
-use lib.ListN.{length, getD, set, drop, length-set}
+use lib.ListN.{length, getD, set, drop, length-set, List·getD-eq-default}
 use lib.Seq.{getD-set-same, getD-set-other}
 use Rattle.records.specs.Records.{Rec, size}
 use Rattle.records.specs.Reading.{Read, offset, onto, readFrom, readAll}
 use Rattle.records.specs.declared.header.Record.{Record}
 use Rattle.records.proofs.ReadingLaws.{Here}
 use Rattle.text.proofs.Cases.{lt-or, eq-or}
-use Rattle.section.specs.Parents.{misplaced, strayFrom, strayOf}
-use Rattle.section.specs.Seats.{ownCode, seatOf}
+use Rattle.section.specs.Parents.{misplaced, leaf}
+use Rattle.section.specs.Seats.{ownCode, bitOf, seatOf}
+use Rattle.section.specs.Windows.{between, firstIn}
+use Rattle.section.specs.Sweeps.{slotOf, strayIn, Within, Sweeps}
 use Rattle.section.specs.declared.parents.Seat.{Seat}
 use Rattle.section.specs.declared.parents.Seat.the-variants as T
-use Rattle.section.specs.declared.parents.Stray.the-variants as Y
-use Rattle.section.proofs.SeatLaws.{Speaks, speaks-start, speaks-skip, speaks-own, Seating, strays, sits, seating}
+use Rattle.section.proofs.SeatLaws.{Speaks, speaks-start, speaks-skip, speaks-own, Seating, strays, sits, seating, seat-free}
+use Rattle.section.proofs.FirstLaws.{between-in, between-low, between-high, first-miss, first-hit}
 
--- ---- the clauses
+-- ---- a record is named exactly where its level is in the window and rule 9 names it
 
-module _ (at : ℕ) (earlier : List Rec) (r : Rec) (rs : List Rec) where
-  stray-here : misplaced r earlier ≡ true → strayFrom at earlier (r ∷ rs) ≡ some at
-  unfolding strayFrom
-  stray-here e = rw e
+abbrev named : ℕ → Rec → List Rec → Bool
+named lo r earlier = between lo (lo + 64) (r .level) && misplaced r earlier
 
-  stray-next : misplaced r earlier ≡ false → strayFrom at earlier (r ∷ rs) ≡ strayFrom (at + size r) (r ∷ earlier) rs
-  unfolding strayFrom
-  stray-next e = rw e
+data Judging (lo code : ℕ) (r : Rec) (earlier : List Rec) : Type 0 where
+  names : seatOf code (r .tag) ≡ T.Stray → named lo r earlier ≡ true → Judging lo code r earlier
+  passes : (c : ℕ) → seatOf code (r .tag) ≡ T.Seated c → named lo r earlier ≡ false
+      → (slotOf lo (r .level) < 64 → Speaks c (r .level) (r ∷ earlier)) → Judging lo code r earlier
+
+module _ (lo : ℕ) (table : List ℕ) (r : Rec) (earlier : List Rec) (long : length table ≡ 64) where
+  abbrev code : ℕ
+  code = getD table (slotOf lo (r .level)) 0
+
+  judged-in : between lo (lo + 64) (r .level) ≡ true → Seating code r earlier → Judging lo code r earlier
+  judged-in b (strays e m) = names e (rw b m)
+  judged-in b (sits c e m w) = passes c e (rw b m) (λ _. w)
+
+  -- outside the window the number is 0
+  judged-out : between lo (lo + 64) (r .level) ≡ false → 64 ≤ slotOf lo (r .level) → Judging lo code r earlier
+  judged-out b h =
+      passes (cond (leaf (r .tag)) (bitOf (r .tag)) 0)
+      (ap (λ (c : ℕ). seatOf c (r .tag)) (List·getD-eq-default table 0 (omega arith)) ∙ seat-free (r .tag)) (rw b) (λ q. absurd (omega arith))
+
+  judging : (slotOf lo (r .level) < 64 → Speaks code (r .level) earlier) → Judging lo code r earlier
+  judging speaks = go (lt-or (r .level) lo) (lt-or (r .level) (lo + 64))
+    where
+      go : (r .level < lo) ⊎ (lo ≤ r .level) → (r .level < lo + 64) ⊎ (lo + 64 ≤ r .level) → Judging lo code r earlier
+      go (inl a) b = judged-out (between-low lo (lo + 64) (r .level) a) (omega arith)
+      go (inr a) (inl b) = judged-in (between-in lo (lo + 64) (r .level) a b) (seating code r earlier (speaks (omega arith)))
+      go (inr a) (inr b) = judged-out (between-high lo (lo + 64) (r .level) a b) (omega arith)
+
+  -- the numbers after a record
+  module _ (c own : ℕ) where
+    abbrev seated : List ℕ
+    seated = set table (slotOf lo (r .level)) c
+
+    abbrev after : List ℕ
+    after = set seated (slotOf lo (r .level + 1)) own
+
+    after-below : (l : ℕ) → slotOf lo l < 64 → l < r .level → getD after (slotOf lo l) 0 ≡ getD table (slotOf lo l) 0
+    after-below l a q =
+        getD-set-other seated (slotOf lo (r .level + 1)) (slotOf lo l) own 0 (λ z. omega arith)
+        ∙ getD-set-other table (slotOf lo (r .level)) (slotOf lo l) c 0 (λ z. omega arith)
+
+    after-here : slotOf lo (r .level) < 64 → getD after (slotOf lo (r .level)) 0 ≡ c
+    after-here a =
+        getD-set-other seated (slotOf lo (r .level + 1)) (slotOf lo (r .level)) own 0 (λ z. omega arith)
+        ∙ getD-set-same table (slotOf lo (r .level)) c 0 (omega arith)
+
+    after-own : slotOf lo (r .level + 1) < 64 → getD after (slotOf lo (r .level + 1)) 0 ≡ own
+    after-own a = getD-set-same seated (slotOf lo (r .level + 1)) own 0 (omega (arith, length-set table (slotOf lo (r .level)) c))
+
+    after-speaks : own ≡ ownCode (r .tag) → (slotOf lo (r .level) < 64 → Speaks c (r .level) (r ∷ earlier))
+        → ((l : ℕ) → slotOf lo l < 64 → l < r .level → Speaks (getD table (slotOf lo l) 0) l earlier)
+        → (l : ℕ) → slotOf lo l < 64 → l ≤ r .level + 1 → Speaks (getD after (slotOf lo l) 0) l (r ∷ earlier)
+    after-speaks e here before l a q = go (lt-or l (r .level)) (eq-or l (r .level))
+      where
+        go : (l < r .level) ⊎ (r .level ≤ l) → (l ≡ r .level) ⊎ (l ≡ r .level → ⊥) → Speaks (getD after (slotOf lo l) 0) l (r ∷ earlier)
+        go (inl k) w = subst (λ (x : ℕ). Speaks x l (r ∷ earlier)) (sym (after-below l a k)) (speaks-skip r k (before l a k))
+        go (inr k) (inl w) =
+            subst (λ (m : ℕ). Speaks (getD after (slotOf lo m) 0) m (r ∷ earlier)) (sym w)
+            (let i : slotOf lo (r .level) < 64 = subst (λ (m : ℕ). slotOf lo m < 64) w a in
+            subst (λ (x : ℕ). Speaks x (r .level) (r ∷ earlier)) (sym (after-here i)) (here i))
+        go (inr k) (inr w) =
+            let z : l ≡ r .level + 1 = omega arith in
+            subst (λ (m : ℕ). Speaks (getD after (slotOf lo m) 0) m (r ∷ earlier)) (sym z)
+            (subst (λ (x : ℕ). Speaks x (r .level + 1) (r ∷ earlier)) (sym (after-own (subst (λ (m : ℕ). slotOf lo m < 64) z a) ∙ e)) (speaks-own r earlier))
+
+-- ---- how deep the records are
+
+within-beyond : (d end at : ℕ) (rs : List Rec) → end ≤ at → Within d end at rs
+within-beyond d end at [] h = tt
+within-beyond d end at (r ∷ rs) h = (λ q. absurd (omega arith), within-beyond d end (at + size r) rs (omega arith))
 
 -- ---- where the pass stands at its loop's head
 
-pub record Placing (s table : List ℕ) (at cap : ℕ) : Type 0 where
+pub record Placing (s : List ℕ) (lo : ℕ) (table : List ℕ) (at cap deepest : ℕ) : Type 0 where
   pub earlier : List Rec
-  pub long : length table ≡ 1025
-  pub low : cap ≤ 1024
-  pub inside : at ≤ length s
-  pub speaks : (l : ℕ) → l ≤ cap → Speaks (getD table l 0) l earlier
-  pub rest : strayFrom 0 [] (readAll s .recs) ≡ strayFrom at earlier (readFrom cap 0 (drop at s) .recs)
+  pub long : length table ≡ 64
+  pub low : deepest < 1024
+  pub speaks : (l : ℕ) → slotOf lo l < 64 → l ≤ cap → Speaks (getD table (slotOf lo l) 0) l earlier
+  pub within : (d end : ℕ) → deepest ≤ d → Within d end at (readFrom cap 0 (drop at s) .recs) → Within d end 0 (readAll s .recs)
+  pub rest : strayIn lo (lo + 64) (length s) 0 [] (readAll s .recs)
+      ≡ strayIn lo (lo + 64) (length s) at earlier (readFrom cap 0 (drop at s) .recs)
 
-pub placing-start : (s table : List ℕ) → length table ≡ 1025 → getD table 0 0 ≡ 16 → Placing s table 0 0
+pub placing-start : (s : List ℕ) (lo : ℕ) (table : List ℕ) → length table ≡ 64 → getD table 0 0 ≡ 16 → Placing s lo table 0 0 0
 unfolding readAll
-placing-start s table h e =
+placing-start s lo table h e =
     record {
       earlier = [];
       long = h;
       low = omega arith;
-      inside = omega arith;
-      speaks = λ l q. let z : l ≡ 0 = omega arith in subst (λ (m : ℕ). Speaks (getD table m 0) m []) (sym z) (subst (λ (c : ℕ). Speaks c 0 []) (sym e) speaks-start);
+      speaks =
+          λ l a q.
+          let z : l ≡ 0 = omega arith in
+          let y : slotOf lo l ≡ 0 = omega arith in
+          subst (λ (m : ℕ). Speaks (getD table (slotOf lo l) 0) m []) (sym z)
+          (subst (λ (c : ℕ). Speaks c 0 []) (sym (ap (λ (i : ℕ). getD table i 0) y ∙ e)) speaks-start);
+      within = λ d end _ w. w;
       rest = refl;
     }
 
--- the number for each level after a record
-module _ (table : List ℕ) (r : Rec) (earlier : List Rec) (code own : ℕ) (h : r .level + 1 < length table) where
-  abbrev after : List ℕ
-  after = set (set table (r .level) code) (r .level + 1) own
-
-  after-below : (l : ℕ) → l < r .level → getD after l 0 ≡ getD table l 0
-  after-below l q =
-      getD-set-other (set table (r .level) code) (r .level + 1) l own 0 (λ z. omega arith) ∙ getD-set-other table (r .level) l code 0 (λ z. omega arith)
-
-  after-here : getD after (r .level) 0 ≡ code
-  after-here =
-      getD-set-other (set table (r .level) code) (r .level + 1) (r .level) own 0 (λ z. omega arith) ∙ getD-set-same table (r .level) code 0 (omega arith)
-
-  after-own : getD after (r .level + 1) 0 ≡ own
-  after-own = getD-set-same (set table (r .level) code) (r .level + 1) own 0 (simp length-set h)
-
-  after-speaks : own ≡ ownCode (r .tag) → Speaks code (r .level) (r ∷ earlier) → ((l : ℕ) → l < r .level → Speaks (getD table l 0) l earlier)
-      → (l : ℕ) → l ≤ r .level + 1 → Speaks (getD after l 0) l (r ∷ earlier)
-  after-speaks e k before l q = go (lt-or l (r .level)) (eq-or l (r .level))
-    where
-      go : (l < r .level) ⊎ (r .level ≤ l) → (l ≡ r .level) ⊎ (l ≡ r .level → ⊥) → Speaks (getD after l 0) l (r ∷ earlier)
-      go (inl a) b = subst (λ (c : ℕ). Speaks c l (r ∷ earlier)) (sym (after-below l a)) (speaks-skip r a (before l a))
-      go (inr a) (inl b) =
-          subst (λ (m : ℕ). Speaks (getD after m 0) m (r ∷ earlier)) (sym b)
-          (subst (λ (c : ℕ). Speaks c (r .level) (r ∷ earlier)) (sym after-here) k)
-      go (inr a) (inr b) =
-          let z : l ≡ r .level + 1 = omega arith in
-          subst (λ (m : ℕ). Speaks (getD after m 0) m (r ∷ earlier)) (sym z)
-          (subst (λ (c : ℕ). Speaks c (r .level + 1) (r ∷ earlier)) (sym (after-own ∙ e)) (speaks-own r earlier))
-
-module _ {s table : List ℕ} {at cap : ℕ} {h : Record} (k : Placing s table at cap) (d : Here s at cap h) where
-  abbrev code : ℕ
-  code = getD table (h .level) 0
-
+module _ {s : List ℕ} {lo : ℕ} {table : List ℕ} {at cap deepest : ℕ} {h : Record} (k : Placing s lo table at cap deepest) (d : Here s at cap h) where
   abbrev behind : List Rec
   behind = readFrom (d .rec .level + 1) 0 (drop (at + size (d .rec)) s) .recs
 
@@ -94,51 +132,64 @@ module _ {s table : List ℕ} {at cap : ℕ} {h : Record} (k : Placing s table a
   unfolding onto
   records = ap (λ (x : Read). x .recs) (d .next)
 
-  here : strayFrom 0 [] (readAll s .recs) ≡ strayFrom at (k .earlier) (d .rec ∷ behind)
-  here = k .rest ∙ ap (strayFrom at (k .earlier)) records
+  here : strayIn lo (lo + 64) (length s) 0 [] (readAll s .recs) ≡ strayIn lo (lo + 64) (length s) at (k .earlier) (d .rec ∷ behind)
+  here = k .rest ∙ ap (strayIn lo (lo + 64) (length s) at (k .earlier)) records
 
-  seated : Seating code (d .rec) (k .earlier)
-  seated =
-      seating code (d .rec) (k .earlier)
-      (subst (λ (l : ℕ). Speaks (getD table l 0) (d .rec .level) (k .earlier)) (sym (d .level-is)) (k .speaks (d .rec .level) (d .obeys .level-cap)))
+  abbrev its-code : ℕ
+  its-code = getD table (slotOf lo (d .rec .level)) 0
 
-  -- the seat by the record's own tag
-  at-tag : {x y : Seat} → x ≡ seatOf code (h .tag) → x ≡ y → seatOf code (d .rec .tag) ≡ y
-  at-tag e q = ap (seatOf code) (sym (d .tag-is)) ∙ sym e ∙ q
+  judged : Judging lo its-code (d .rec) (k .earlier)
+  judged = judging lo table (d .rec) (k .earlier) (k .long) (λ a. k .speaks (d .rec .level) a (d .obeys .level-cap))
 
-  stray-by : Seating code (d .rec) (k .earlier) → seatOf code (d .rec .tag) ≡ T.Stray → Y.At (offset at) ≡ strayOf (strayFrom 0 [] (readAll s .recs))
-  stray-by (strays a m) e = sym (ap strayOf (here ∙ stray-here at (k .earlier) (d .rec) behind m))
-  stray-by (sits c a m w) e = absurd (let z : T.Seated c ≡ T.Stray = sym a ∙ e in let y : _≡_ {A = ℕ} 0 1 = cc in omega arith)
+  -- the seat by the record's own tag and level
+  at-tag : {i code : ℕ} {x y : Seat} → i ≡ slotOf lo (h .level) → code ≡ getD table i 0 → x ≡ seatOf code (h .tag) → x ≡ y → seatOf its-code (d .rec .tag) ≡ y
+  at-tag f c e q =
+      ap₂ seatOf (ap (λ (l : ℕ). getD table (slotOf lo l) 0) (sym (d .level-is)) ∙ ap (λ (i : ℕ). getD table i 0) (sym f) ∙ sym c) (sym (d .tag-is))
+      ∙ sym e ∙ q
 
-  pub placing-stray : (x : Seat) → x ≡ seatOf code (h .tag) → x ≡ T.Stray → Y.At (offset at) ≡ strayOf (strayFrom 0 [] (readAll s .recs))
-  placing-stray x e q = stray-by seated (at-tag e q)
+  stray-by : Judging lo its-code (d .rec) (k .earlier) → seatOf its-code (d .rec .tag) ≡ T.Stray → Sweeps s lo (record { stray = offset at; deepest = deepest })
+  stray-by (names a m) e =
+      record {
+        stray-is = ap offset (sym (here ∙ first-hit _ _ lo (lo + 64) (length s) at (k .earlier) (d .rec) behind (omega (arith, d .left)) m));
+        within = k .within deepest at (omega arith) (within-beyond deepest at at (readFrom cap 0 (drop at s) .recs) (omega arith));
+        low = k .low;
+      }
+  stray-by (passes c a m w) e = absurd (let z : T.Seated c ≡ T.Stray = sym a ∙ e in let y : _≡_ {A = ℕ} 0 1 = cc in omega arith)
 
-  next-by : Seating code (d .rec) (k .earlier) → (c own : ℕ) → seatOf code (d .rec .tag) ≡ T.Seated c → own ≡ ownCode (h .tag)
-      → Placing s (set (set table (h .level) c) (h .level + 1) own) (h .next .0) (h .level + 1)
-  next-by (strays a m) c own e o = absurd (let z : T.Stray ≡ T.Seated c = sym a ∙ e in let y : _≡_ {A = ℕ} 0 1 = cc in omega arith)
-  next-by (sits b a m w) c own e o =
+  next-by : Judging lo its-code (d .rec) (k .earlier) → (c own : ℕ) → seatOf its-code (d .rec .tag) ≡ T.Seated c → own ≡ ownCode (d .rec .tag)
+      → Placing s lo (after lo table (d .rec) (k .earlier) (k .long) c own) (at + size (d .rec)) (d .rec .level + 1) (max deepest (d .rec .level))
+  next-by (names a m) c own e o = absurd (let z : T.Stray ≡ T.Seated c = sym a ∙ e in let y : _≡_ {A = ℕ} 0 1 = cc in omega arith)
+  next-by (passes b a m w) c own e o =
       let z : T.Seated b ≡ T.Seated c = sym a ∙ e in
       let same : b ≡ c = cc in
       record {
         earlier = d .rec ∷ k .earlier;
         long = simp length-set (k .long);
-        low = omega (arith, d .level-is, d .obeys .level-high);
-        inside = omega (arith, d .inside, d .next-is);
+        low = omega (arith, k .low, d .obeys .level-high);
         speaks =
-            subst (λ (v : ℕ). (l : ℕ) → l ≤ v + 1 → Speaks (getD (set (set table v c) (v + 1) own) l 0) l (d .rec ∷ k .earlier)) (sym (d .level-is))
-            (after-speaks table (d .rec) (k .earlier) c own (omega (arith, k .long, d .obeys .level-high)) (o ∙ ap ownCode (d .tag-is))
-            (subst (λ (x : ℕ). Speaks x (d .rec .level) (d .rec ∷ k .earlier)) same w)
-            (λ l q. k .speaks l (omega (arith, d .obeys .level-cap))));
-        rest =
-            here ∙ stray-next at (k .earlier) (d .rec) behind m
-            ∙ ap₂ (λ (a l : ℕ). strayFrom a (d .rec ∷ k .earlier) (readFrom (l + 1) 0 (drop a s) .recs)) (sym (d .next-is)) (sym (d .level-is));
+            after-speaks lo table (d .rec) (k .earlier) (k .long) c own o
+            (λ p. subst (λ (x : ℕ). Speaks x (d .rec .level) (d .rec ∷ k .earlier)) same (w p))
+            (λ l p i. k .speaks l p (omega (arith, d .obeys .level-cap)));
+        within = λ v end p q. k .within v end (omega arith) (subst (Within v end at) (sym records) ((λ _. omega arith), q));
+        rest = here ∙ first-miss _ _ lo (lo + 64) (length s) at (k .earlier) (d .rec) behind m;
       }
 
-  pub placing-next : (x : Seat) (c own : ℕ) → x ≡ seatOf code (h .tag) → x ≡ T.Seated c → own ≡ ownCode (h .tag)
-      → Placing s (set (set table (h .level) c) (h .level + 1) own) (h .next .0) (h .level + 1)
-  placing-next x c own e q o = next-by seated c own (at-tag e q) o
+  -- by what the code's steps gave: the slot, the number kept there, and the seat
+  module _ (i code : ℕ) (x : Seat) (f : i ≡ slotOf lo (h .level)) (g : code ≡ getD table i 0) (e : x ≡ seatOf code (h .tag)) where
+    pub placing-stray : x ≡ T.Stray → Sweeps s lo (record { stray = offset at; deepest = deepest })
+    placing-stray q = stray-by judged (at-tag f g e q)
 
-pub placing-end : {s table : List ℕ} {at cap : ℕ} → Placing s table at cap → readFrom cap 0 (drop at s) .recs ≡ []
-    → Y.Nowhere ≡ strayOf (strayFrom 0 [] (readAll s .recs))
-unfolding strayFrom
-placing-end {s} {table} {at} {cap} k e = sym (ap strayOf (k .rest ∙ ap (strayFrom at (k .earlier)) e))
+    pub placing-next : (c own j deep : ℕ) (one two : List ℕ) → x ≡ T.Seated c → one ≡ set table i c → deep ≡ max deepest (h .level)
+        → j ≡ slotOf lo (h .level + 1) → own ≡ ownCode (h .tag) → two ≡ set one j own → Placing s lo two (h .next .0) (h .level + 1) deep
+    placing-next c own j deep one two q k₁ m n o k₂ =
+        rw (k₂, k₁, m, n, f, d .next-is, d .level-is) (next-by judged c own (at-tag f g e q) (o ∙ ap ownCode (d .tag-is)))
+
+pub placing-end : {s : List ℕ} {lo : ℕ} {table : List ℕ} {at cap deepest : ℕ} → Placing s lo table at cap deepest
+    → readFrom cap 0 (drop at s) .recs ≡ [] → Sweeps s lo (record { stray = offset (length s); deepest = deepest })
+unfolding firstIn
+placing-end {s} {lo} {table} {at} {cap} {deepest} k e =
+    record {
+      stray-is = ap offset (sym (k .rest ∙ ap (strayIn lo (lo + 64) (length s) at (k .earlier)) e));
+      within = k .within deepest (length s) (omega arith) (subst (Within deepest (length s) at) (sym e) tt);
+      low = k .low;
+    }

@@ -1,5 +1,7 @@
 pub mod Parents
 pub mod Seats
+pub mod Windows
+pub mod Sweeps
 pub mod Section
 pub mod Windows
 pub mod Slots

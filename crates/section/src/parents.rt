@@ -1,14 +1,20 @@
-// Where records 67 to 70 stand: rule 9. Its pass keeps 1,025 bytes on the stack, one for each level and one below.
+// Where records 67 to 70 stand: rule 9. A pass keeps 64 bytes on the stack, one for each level of a window; only a stream that goes deeper is
+// passed again, for the next 64 levels.
 use records::Ahead;
 use records::Kind;
 use records::Offset;
 use records::record_at;
 ghost use mathlib.Core.Path.{_≡_};
 ghost use mathlib.Core.List.{[]};
-ghost use Prim.Native.Nat.{_≤_};
+ghost use Prim.Native.Nat.{_≤_, max};
+ghost use lib.ListN.{getD, set};
 ghost use Rattle.records.specs.Reading.{readAll};
 ghost use Rattle.section.specs.Parents.{leaf, strayFrom, strayOf};
 ghost use Rattle.section.specs.Seats.{ownCode, bitOf, seatLeaf, seatOf};
+ghost use Rattle.section.specs.Sweeps.{slotOf, Sweeps};
+
+// The levels of one window.
+const LEVELS: u32 = 64;
 
 // What becomes of the number kept for a level where a record stands there.
 pub enum Seat {
@@ -20,6 +26,13 @@ pub enum Seat {
 pub enum Stray {
     Nowhere,
     At(Offset),
+}
+
+// What a pass finds: the earliest stray whose level is in its window, or the stream's length where there is none; and a level that no record
+// before it exceeds.
+pub struct Swept {
+    pub stray: Offset,
+    pub deepest: u32,
 }
 
 fn is_leaf(tag: u32) -> bool
@@ -78,28 +91,90 @@ fn take_seat(code: u8, tag: u32) -> Seat
     Seat::Seated(code)
 }
 
-// One pass with a number for each level: what the parent of a record at that level is, and which of 67 to 70 it has.
+// Where the number for a level stands among those of the window from lo on; LEVELS or more, where none stands, for a level outside it.
+fn slot(lo: u32, level: u32) -> usize
+    ensures { λ r. ⌜ r ≡ slotOf lo level ⌝ }
+{
+    if lo <= level {
+        (level - lo) as usize
+    } else {
+        LEVELS as usize
+    }
+}
+
+// The number that is kept; 0, with which any record takes its seat, outside the window.
+fn kept(table: &[u8], i: usize) -> u8
+    ensures { λ r. ⌜ r ≡ getD (now (table .entry)) i 0 ⌝ }
+{
+    if i < table.len() { table[i] } else { 0 }
+}
+
+// Keeps a number; none outside the window.
+fn keep(table: &mut [u8], i: usize, code: u8)
+    ensures { λ _. ⌜ now (table .exit) ≡ set (now (table .entry)) i code ⌝ }
+{
+    if i < table.len() {
+        table[i] = code;
+    }
+}
+
+fn deeper(a: u32, b: u32) -> u32
+    ensures { λ r. ⌜ r ≡ max a b ⌝ }
+{
+    if a < b { b } else { a }
+}
+
+// One pass with a number for each level of the window from lo on: what the parent of a record at that level is, and which of 67 to 70 it has.
+fn sweep(s: &[u8], lo: u32) -> Swept
+    ensures { λ r. ⌜ Sweeps (now (s .entry)) lo r ⌝ }
+{
+    let mut table = [16u8; LEVELS as usize];
+    let mut at = Offset(0);
+    let mut cap: u32 = 0;
+    let mut deepest: u32 = 0;
+    loop {
+        let Ahead::Record(r) = record_at(s, at, cap) else {
+            return Swept {
+                stray: Offset(s.len()),
+                deepest,
+            };
+        };
+        let i = slot(lo, r.level);
+        match take_seat(kept(&table, i), r.tag) {
+            Seat::Stray => {
+                return Swept { stray: at, deepest };
+            }
+            Seat::Seated(code) => {
+                keep(&mut table, i, code);
+            }
+        }
+        deepest = deeper(deepest, r.level);
+        at = r.next;
+        cap = r.level + 1;
+        keep(&mut table, slot(lo, cap), own_code(r.tag));
+    }
+}
+
+// A pass for each window down to the deepest level.
 pub fn find_stray(s: &[u8]) -> Stray
     ensures { λ r. ⌜ r ≡ strayOf (strayFrom 0 [] (readAll (now (s .entry)) .recs)) ⌝ }
 {
-    let mut table = [16u8; 1025];
-    let mut at = Offset(0);
-    let mut cap: u32 = 0;
+    let mut place = s.len();
+    let mut lo: u32 = 0;
     loop {
-        let Ahead::Record(r) = record_at(s, at, cap) else {
-            return Stray::Nowhere;
-        };
-        let level = r.level as usize;
-        match take_seat(table[level], r.tag) {
-            Seat::Stray => {
-                return Stray::At(at);
-            }
-            Seat::Seated(code) => {
-                table[level] = code;
-                table[level + 1] = own_code(r.tag);
-            }
+        let swept = sweep(s, lo);
+        let stray = swept.stray;
+        if stray.0 < place {
+            place = stray.0;
         }
-        at = r.next;
-        cap = r.level + 1;
+        lo = lo + LEVELS;
+        if swept.deepest < lo {
+            break;
+        }
+    }
+    if place < s.len() {
+        Stray::At(Offset(place))
+    } else {
+        Stray::Nowhere
     }
 }
