@@ -1,10 +1,9 @@
 pub mod FirstLaws
+pub mod SeatLaws
+pub mod StrayLaws
+pub mod SweepLaws
 pub mod SlotLaws
 pub mod GatherLaws
 pub mod ParagraphLaws
-pub mod SeatLaws
-pub mod FirstLaws
-pub mod StrayLaws
-pub mod SweepLaws
 pub mod SectionLaws
 pub mod NearLaws

@@ -3,6 +3,5 @@ pub mod Seats
 pub mod Windows
 pub mod Sweeps
 pub mod Section
-pub mod Windows
 pub mod Slots
 pub mod Promise
