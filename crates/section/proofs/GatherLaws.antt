@@ -1,16 +1,16 @@
 -- The gathering pass: each slot of its window holds a paragraph and the parts that it had so far, and what is first at fault is among those judged,
 -- those held and those to come. Assumes nothing.
-use Prim.Native.Nat.{ℕ, zero, suc, _+_, _-_, _*_, _≤_, _<_, min}
+use Prim.Native.Nat.{ℕ, zero, suc, _+_, _-_, _*_, _≤_, _<_, min, max}
 use native.Mathlib.Omega.{arith}
 use mathlib.Core.Path.{_≡_, refl, sym, ap, ap₂, _∙_, subst}
 use mathlib.Core.Logic.{_⊎_, inl, inr}
 use mathlib.Core.Bool.{Bool, true, false, cond, _&&_}
 use mathlib.Core.Option.{none}
 use mathlib.Core.List.{List, [], _∷_}
-use lib.Dec.{ltb, leb, eqb}
+use lib.Dec.{eqb}
 use lib.ListN.{length, getD, set, drop, replicate, length-set}
 use lib.Seq.{getD-set-same, getD-set-other, set-out}
-use borrow.Author.Tests.{lt-ltb, le-ltb, le-leb, lt-leb, eq-eqb, ne-eqb, eqb-true, eqb-false}
+use borrow.Author.Tests.{eq-eqb, ne-eqb}
 use Rattle.numbers.specs.Little.{Bytes}
 use Rattle.records.specs.Records.{Rec, size, limit, Lawful}
 use Rattle.records.specs.Reading.{aheadOf, readAll}
@@ -18,11 +18,8 @@ use Rattle.records.specs.declared.header.Record.{Record}
 use Rattle.records.specs.declared.header.Ahead.the-variants as N
 use Rattle.records.proofs.ReadingLaws.{encode-read}
 use Rattle.text.proofs.Cases.{lt-or, eq-or}
-use Rattle.paragraph.specs.View.{side}
 use Rattle.paragraph.specs.Stream.{recordsIn}
-use Rattle.paragraph.specs.Rules.{firstFault}
 use Rattle.paragraph.specs.Places.{partsIn, takenAs}
-use Rattle.paragraph.specs.declared.view.Side.the-variants as S
 use Rattle.paragraph.specs.declared.children.Parts.{Parts}
 use Rattle.paragraph.specs.declared.children.Found.{Found}
 use Rattle.paragraph.specs.declared.children.Found.the-variants as P
@@ -30,11 +27,10 @@ use Rattle.paragraph.proofs.StreamLaws.{Read, Stood, in-read}
 use Rattle.paragraph.proofs.ViewLaws.{side-beyond, side-deeper, side-low, side-high, side-owned}
 use Rattle.paragraph.proofs.PartLaws.{Gathering, taken, nothing, gather-start, gather-beyond, gather-passed, gather-child, gather-none}
 use Rattle.section.specs.Parents.{header}
-use Rattle.section.specs.Section.{findingOf}
 use Rattle.section.specs.Windows.{between, firstIn}
-use Rattle.section.specs.Slots.{headOf, entry, partFound, partsOf, atFault, below, faulty, slotFault, slotsFault, Ended, more, noted, fresh, inWindow, notedIn, takenIn, ownFault, faultIn, deepestFrom}
+use Rattle.section.specs.Slots.{headOf, entry, partFound, partsOf, below, faulty, slotFault, slotsFault, Ended, more, noted, fresh, inWindow, notedIn, takenIn, ownFault, faultIn, deepestFrom}
 use Rattle.section.proofs.FirstLaws.{first-next, first-below}
-use Rattle.section.proofs.SlotLaws.{part-none, part-there, more-control, more-first, more-later, noted-empty, noted-low, noted-high, noted-there, in-low, in-high, in-window, noted-outside, noted-inside, taken-outside, taken-header, taken-other, own-outside, own-inside}
+use Rattle.section.proofs.SlotLaws.{part-none, part-there, more-control, more-first, more-later, noted-empty, noted-low, noted-high, noted-there, in-low, in-high, in-window, noted-outside, noted-inside}
 
 -- ---- slots that have the same entries
 
@@ -706,7 +702,7 @@ module _ {s : List ℕ} {lo : ℕ} {slots : List ℕ} {at first deepest : ℕ} {
       ∙ first-next below faulty lo (lo + 64) (length s) at (k .earlier) (d .rec) (recordsIn (drop (r .next .0) s))
       ∙ ap (λ (n : ℕ). min (next-one s at r d (k .earlier) lo noted-slots noted-room) (firstIn below faulty lo (lo + 64) (length s) n (d .rec ∷ k .earlier) (recordsIn (drop (r .next .0) s)))) (sym (d .next-is))
 
-  pub gathers-next : (own first′ deepest′ : ℕ) → own ≡ ownFault s lo noted-slots (r .level + 1) → first′ ≡ min first own → deepest′ ≡ cond (ltb deepest (r .level)) (r .level) deepest
+  pub gathers-next : (own first′ deepest′ : ℕ) → own ≡ ownFault s lo noted-slots (r .level + 1) → first′ ≡ min first own → deepest′ ≡ max deepest (r .level)
       → Gathers s lo taken-slots (r .next .0) first′ deepest′
   unfolding deepestFrom
   gathers-next own first′ deepest′ o f e =
@@ -726,7 +722,7 @@ module _ {s : List ℕ} {lo : ℕ} {slots : List ℕ} {at first deepest : ℕ} {
             (k .rest ∙ ap (λ (n : ℕ). min first (min (slotsFault s slots 64) n)) to-come) (ap (λ (n : ℕ). min n (slotsFault s taken-slots 64)) o ∙ b ∙ ap (min (next-one s at r d (k .earlier) lo noted-slots noted-room)) a) f;
         deep =
             k .deep ∙ ap (deepestFrom deepest) (d .records)
-            ∙ ap (λ (m : ℕ). deepestFrom m (recordsIn (drop (r .next .0) s))) (ap (λ (n : ℕ). cond (ltb deepest n) n deepest) (sym (d .level-is)) ∙ sym e);
+            ∙ ap (λ (m : ℕ). deepestFrom m (recordsIn (drop (r .next .0) s))) (ap (max deepest) (sym (d .level-is)) ∙ sym e);
       }
 
   -- the same by the slots as the calls left them
@@ -735,7 +731,7 @@ module _ {s : List ℕ} {lo : ℕ} {slots : List ℕ} {at first deepest : ℕ} {
   gathers-taken one e = rw e (noted-room, gathers-ended)
 
   pub gathers-step : (one two : List ℕ) (own first′ deepest′ : ℕ) → one ≡ noted-slots → own ≡ ownFault s lo one (r .level + 1)
-      → two ≡ takenIn lo one (r .tag) (r .level + 1) (at + 1) → first′ ≡ min first own → deepest′ ≡ cond (ltb deepest (r .level)) (r .level) deepest
+      → two ≡ takenIn lo one (r .tag) (r .level + 1) (at + 1) → first′ ≡ min first own → deepest′ ≡ max deepest (r .level)
       → Gathers s lo two (r .next .0) first′ deepest′
   gathers-step one two own first′ deepest′ e o t f g =
       subst (λ (l : List ℕ). Gathers s lo l (r .next .0) first′ deepest′) (sym (t ∙ ap (λ (l : List ℕ). takenIn lo l (r .tag) (r .level + 1) (at + 1)) e))

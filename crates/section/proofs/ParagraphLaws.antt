@@ -1,16 +1,14 @@
 -- Windows behind each other go over all paragraphs, and the least place at fault is what `paragraphsFault` names. Assumes nothing.
-use Prim.Native.Nat.{ℕ, zero, suc, _+_, _-_, _≤_, _<_, min}
+use Prim.Native.Nat.{ℕ, _+_, _-_, _≤_, _<_, min, max}
 use native.Mathlib.Omega.{arith}
-use mathlib.Core.Path.{_≡_, refl, sym, ap, ap₂, _∙_, subst}
+use mathlib.Core.Path.{_≡_, refl, sym, ap, _∙_, subst}
 use mathlib.Core.Logic.{_⊎_, inl, inr}
-use mathlib.Core.Bool.{Bool, true, false, cond, _&&_}
+use mathlib.Core.Bool.{Bool, true, false, cond}
 use mathlib.Core.Option.{Option, none, some}
 use mathlib.Core.List.{List, [], _∷_}
-use lib.Dec.{ltb, eqb}
 use lib.ListN.{length, drop}
-use borrow.Author.Tests.{lt-ltb, le-ltb, eq-eqb, ne-eqb}
 use Rattle.numbers.specs.Little.{Bytes}
-use Rattle.records.specs.Records.{Rec, size, limit, Lawful}
+use Rattle.records.specs.Records.{Rec, size, Lawful}
 use Rattle.records.specs.Answers.{refusal, refusedAt}
 use Rattle.records.specs.Reading.{offset, readAll}
 use Rattle.records.specs.Table.{settled}
@@ -19,7 +17,7 @@ use Rattle.records.specs.declared.fault.Offset.{Offset}
 use Rattle.records.specs.declared.fault.Refusal.{Refusal}
 use Rattle.records.specs.declared.fault.Answer.the-variants as A
 use Rattle.records.proofs.ReadingLaws.{encode-read}
-use Rattle.text.proofs.Cases.{lt-or, eq-or}
+use Rattle.text.proofs.Cases.{lt-or}
 use Rattle.paragraph.specs.Stream.{recordsIn}
 use Rattle.paragraph.specs.Rules.{firstFault}
 use Rattle.paragraph.specs.Places.{placeOf}
@@ -28,33 +26,22 @@ use Rattle.paragraph.specs.declared.finding.Finding.{Finding}
 use Rattle.paragraph.specs.declared.finding.Finding.the-variants as G
 use Rattle.paragraph.proofs.StreamLaws.{in-read, stood-of, Stood}
 use Rattle.section.specs.Parents.{header}
-use Rattle.section.specs.Section.{refusalOr, findingOf, paragraphsFault}
-use Rattle.section.specs.Windows.{between, firstIn}
-use Rattle.section.specs.Slots.{atFault, below, faulty, faultIn, deepestFrom}
-use Rattle.section.proofs.FirstLaws.{between-in, between-low, first-miss, first-hit, first-join, first-below, first-empty}
+use Rattle.section.specs.Section.{findingOf, paragraphsFault}
+use Rattle.section.specs.Windows.{firstIn}
+use Rattle.section.specs.Slots.{below, faulty, faultIn, deepestFrom}
+use Rattle.section.proofs.FirstLaws.{between-in, between-low, first-miss, first-hit, first-join, first-below}
 
 -- ---- how deep the records go
-
-either : (a b : ℕ) → (a ≤ cond (ltb a b) b a) × (b ≤ cond (ltb a b) b a)
-either a b = go (lt-or a b)
-  where
-    go : (a < b) ⊎ (b ≤ a) → (a ≤ cond (ltb a b) b a) × (b ≤ cond (ltb a b) b a)
-    go (inl h) = rw (lt-ltb a b h) (omega arith, omega arith)
-    go (inr h) = rw (le-ltb a b h) (omega arith, omega arith)
 
 deepest-above : (m : ℕ) (rs : List Rec) → m ≤ deepestFrom m rs
 unfolding deepestFrom
 deepest-above m [] = omega arith
-deepest-above m (r ∷ rs) = omega (arith, either m (r .level) .0, deepest-above (cond (ltb m (r .level)) (r .level) m) rs)
+deepest-above m (r ∷ rs) = omega (arith, deepest-above (max m (r .level)) rs)
 
 deepest-high : (cap m : ℕ) (rs : List Rec) → Lawful cap rs → m < 1024 → deepestFrom m rs < 1024
 unfolding deepestFrom
 deepest-high cap m [] l h = h
-deepest-high cap m (r ∷ rs) l h = deepest-high (r .level + 1) (cond (ltb m (r .level)) (r .level) m) rs (l .1) (by (ltb m (r .level)))
-  where
-    by : (b : Bool) → cond b (r .level) m < 1024
-    by true = l .0 .level-high
-    by false = h
+deepest-high cap m (r ∷ rs) l h = deepest-high (r .level + 1) (max m (r .level)) rs (l .1) (omega (arith, l .0 .level-high))
 
 -- a window below all records
 beyond-none : (test : List Rec → Rec → List Rec → Bool) (m lo hi e at : ℕ) (earlier rs : List Rec) → deepestFrom m rs + 1 < lo
@@ -63,8 +50,8 @@ unfolding firstIn deepestFrom
 beyond-none test m lo hi e at earlier [] h = refl
 beyond-none test m lo hi e at earlier (r ∷ rs) h =
     first-miss below test lo hi e at earlier r rs
-    (rw (between-low lo hi (r .level + 1) (omega (arith, either m (r .level) .1, deepest-above (cond (ltb m (r .level)) (r .level) m) rs))))
-    ∙ beyond-none test (cond (ltb m (r .level)) (r .level) m) lo hi e (at + size r) (r ∷ earlier) rs h
+    (rw (between-low lo hi (r .level + 1) (omega (arith, deepest-above (max m (r .level)) rs))))
+    ∙ beyond-none test (max m (r .level)) lo hi e (at + size r) (r ∷ earlier) rs h
 
 -- ---- one window behind the other
 

@@ -1,14 +1,13 @@
 -- The leaves of the gathering pass: what an entry names, a slot judged, noted and renewed. Assumes nothing.
-use Prim.Native.Nat.{ℕ, zero, suc, _+_, _-_, _*_, _≤_, _<_, min}
+use Prim.Native.Nat.{ℕ, suc, _+_, _-_, _*_, _≤_, _<_, min}
 use native.Mathlib.Omega.{arith}
 use mathlib.Core.Path.{_≡_, refl, sym, ap, ap₂, _∙_, subst}
-use mathlib.Core.Logic.{_⊎_, inl, inr}
-use mathlib.Core.Bool.{Bool, true, false, cond, _&&_}
-use mathlib.Core.List.{List, [], _∷_}
-use lib.Dec.{ltb, leb, eqb}
-use lib.ListN.{length, getD, set, drop, length-set}
+use mathlib.Core.Logic.{inl, inr}
+use mathlib.Core.Bool.{true, false}
+use mathlib.Core.List.{List, []}
+use lib.ListN.{length, set, drop}
 use borrow.Author.Tests.{lt-ltb, le-ltb, le-leb, lt-leb, eq-eqb, ne-eqb}
-use Rattle.records.specs.Records.{Rec, size}
+use Rattle.records.specs.Records.{size}
 use Rattle.records.specs.Reading.{aheadOf}
 use Rattle.records.specs.declared.header.Record.{Record}
 use Rattle.records.specs.declared.header.Ahead.{Ahead}
@@ -18,14 +17,13 @@ use Rattle.paragraph.specs.Stream.{recordsIn}
 use Rattle.paragraph.specs.Rules.{firstFault}
 use Rattle.paragraph.specs.Places.{partsIn}
 use Rattle.paragraph.specs.declared.children.Parts.{Parts}
-use Rattle.paragraph.specs.declared.children.Found.{Found}
 use Rattle.paragraph.specs.declared.children.Found.the-variants as P
 use Rattle.records.specs.declared.fault.Fault.{Fault}
 use Rattle.paragraph.specs.declared.finding.Which.{Which}
 use Rattle.paragraph.specs.declared.finding.Finding.{Finding}
 use Rattle.paragraph.specs.declared.finding.Finding.the-variants as G
 use Rattle.paragraph.proofs.StreamLaws.{Read}
-use Rattle.section.specs.Slots.{headOf, entry, foundAhead, partFound, partsOf, atFault, slotFault, slotsFault, Ended, more, noted, fresh, inWindow, notedIn, takenIn, ownFault}
+use Rattle.section.specs.Slots.{headOf, entry, foundAhead, partFound, partsOf, slotFault, slotsFault, Ended, more, noted, fresh, inWindow, notedIn, takenIn, ownFault}
 
 -- ---- what an entry names
 

@@ -15,7 +15,7 @@ use Rattle.text.proofs.Cases.{lt-or, eq-or}
 use Rattle.section.specs.Parents.{misplaced, leaf}
 use Rattle.section.specs.Seats.{ownCode, bitOf, seatOf}
 use Rattle.section.specs.Windows.{between, firstIn}
-use Rattle.section.specs.Sweeps.{slotOf, strayIn, Within, Sweeps}
+use Rattle.section.specs.Sweeps.{indexIn, strayIn, Within, Sweeps}
 use Rattle.section.specs.declared.parents.Seat.{Seat}
 use Rattle.section.specs.declared.parents.Seat.the-variants as T
 use Rattle.section.proofs.SeatLaws.{Speaks, speaks-start, speaks-skip, speaks-own, Seating, strays, sits, seating, seat-free}
@@ -29,23 +29,23 @@ named lo r earlier = between lo (lo + 64) (r .level) && misplaced r earlier
 data Judging (lo code : ℕ) (r : Rec) (earlier : List Rec) : Type 0 where
   names : seatOf code (r .tag) ≡ T.Stray → named lo r earlier ≡ true → Judging lo code r earlier
   passes : (c : ℕ) → seatOf code (r .tag) ≡ T.Seated c → named lo r earlier ≡ false
-      → (slotOf lo (r .level) < 64 → Speaks c (r .level) (r ∷ earlier)) → Judging lo code r earlier
+      → (indexIn lo (r .level) < 64 → Speaks c (r .level) (r ∷ earlier)) → Judging lo code r earlier
 
 module _ (lo : ℕ) (table : List ℕ) (r : Rec) (earlier : List Rec) (long : length table ≡ 64) where
   abbrev code : ℕ
-  code = getD table (slotOf lo (r .level)) 0
+  code = getD table (indexIn lo (r .level)) 0
 
   judged-in : between lo (lo + 64) (r .level) ≡ true → Seating code r earlier → Judging lo code r earlier
   judged-in b (strays e m) = names e (rw b m)
   judged-in b (sits c e m w) = passes c e (rw b m) (λ _. w)
 
   -- outside the window the number is 0
-  judged-out : between lo (lo + 64) (r .level) ≡ false → 64 ≤ slotOf lo (r .level) → Judging lo code r earlier
+  judged-out : between lo (lo + 64) (r .level) ≡ false → 64 ≤ indexIn lo (r .level) → Judging lo code r earlier
   judged-out b h =
       passes (cond (leaf (r .tag)) (bitOf (r .tag)) 0)
       (ap (λ (c : ℕ). seatOf c (r .tag)) (List·getD-eq-default table 0 (omega arith)) ∙ seat-free (r .tag)) (rw b) (λ q. absurd (omega arith))
 
-  judging : (slotOf lo (r .level) < 64 → Speaks code (r .level) earlier) → Judging lo code r earlier
+  judging : (indexIn lo (r .level) < 64 → Speaks code (r .level) earlier) → Judging lo code r earlier
   judging speaks = go (lt-or (r .level) lo) (lt-or (r .level) (lo + 64))
     where
       go : (r .level < lo) ⊎ (lo ≤ r .level) → (r .level < lo + 64) ⊎ (lo + 64 ≤ r .level) → Judging lo code r earlier
@@ -56,39 +56,39 @@ module _ (lo : ℕ) (table : List ℕ) (r : Rec) (earlier : List Rec) (long : le
   -- the numbers after a record
   module _ (c own : ℕ) where
     abbrev seated : List ℕ
-    seated = set table (slotOf lo (r .level)) c
+    seated = set table (indexIn lo (r .level)) c
 
     abbrev after : List ℕ
-    after = set seated (slotOf lo (r .level + 1)) own
+    after = set seated (indexIn lo (r .level + 1)) own
 
-    after-below : (l : ℕ) → slotOf lo l < 64 → l < r .level → getD after (slotOf lo l) 0 ≡ getD table (slotOf lo l) 0
+    after-below : (l : ℕ) → indexIn lo l < 64 → l < r .level → getD after (indexIn lo l) 0 ≡ getD table (indexIn lo l) 0
     after-below l a q =
-        getD-set-other seated (slotOf lo (r .level + 1)) (slotOf lo l) own 0 (λ z. omega arith)
-        ∙ getD-set-other table (slotOf lo (r .level)) (slotOf lo l) c 0 (λ z. omega arith)
+        getD-set-other seated (indexIn lo (r .level + 1)) (indexIn lo l) own 0 (λ z. omega arith)
+        ∙ getD-set-other table (indexIn lo (r .level)) (indexIn lo l) c 0 (λ z. omega arith)
 
-    after-here : slotOf lo (r .level) < 64 → getD after (slotOf lo (r .level)) 0 ≡ c
+    after-here : indexIn lo (r .level) < 64 → getD after (indexIn lo (r .level)) 0 ≡ c
     after-here a =
-        getD-set-other seated (slotOf lo (r .level + 1)) (slotOf lo (r .level)) own 0 (λ z. omega arith)
-        ∙ getD-set-same table (slotOf lo (r .level)) c 0 (omega arith)
+        getD-set-other seated (indexIn lo (r .level + 1)) (indexIn lo (r .level)) own 0 (λ z. omega arith)
+        ∙ getD-set-same table (indexIn lo (r .level)) c 0 (omega arith)
 
-    after-own : slotOf lo (r .level + 1) < 64 → getD after (slotOf lo (r .level + 1)) 0 ≡ own
-    after-own a = getD-set-same seated (slotOf lo (r .level + 1)) own 0 (omega (arith, length-set table (slotOf lo (r .level)) c))
+    after-own : indexIn lo (r .level + 1) < 64 → getD after (indexIn lo (r .level + 1)) 0 ≡ own
+    after-own a = getD-set-same seated (indexIn lo (r .level + 1)) own 0 (omega (arith, length-set table (indexIn lo (r .level)) c))
 
-    after-speaks : own ≡ ownCode (r .tag) → (slotOf lo (r .level) < 64 → Speaks c (r .level) (r ∷ earlier))
-        → ((l : ℕ) → slotOf lo l < 64 → l < r .level → Speaks (getD table (slotOf lo l) 0) l earlier)
-        → (l : ℕ) → slotOf lo l < 64 → l ≤ r .level + 1 → Speaks (getD after (slotOf lo l) 0) l (r ∷ earlier)
+    after-speaks : own ≡ ownCode (r .tag) → (indexIn lo (r .level) < 64 → Speaks c (r .level) (r ∷ earlier))
+        → ((l : ℕ) → indexIn lo l < 64 → l < r .level → Speaks (getD table (indexIn lo l) 0) l earlier)
+        → (l : ℕ) → indexIn lo l < 64 → l ≤ r .level + 1 → Speaks (getD after (indexIn lo l) 0) l (r ∷ earlier)
     after-speaks e here before l a q = go (lt-or l (r .level)) (eq-or l (r .level))
       where
-        go : (l < r .level) ⊎ (r .level ≤ l) → (l ≡ r .level) ⊎ (l ≡ r .level → ⊥) → Speaks (getD after (slotOf lo l) 0) l (r ∷ earlier)
+        go : (l < r .level) ⊎ (r .level ≤ l) → (l ≡ r .level) ⊎ (l ≡ r .level → ⊥) → Speaks (getD after (indexIn lo l) 0) l (r ∷ earlier)
         go (inl k) w = subst (λ (x : ℕ). Speaks x l (r ∷ earlier)) (sym (after-below l a k)) (speaks-skip r k (before l a k))
         go (inr k) (inl w) =
-            subst (λ (m : ℕ). Speaks (getD after (slotOf lo m) 0) m (r ∷ earlier)) (sym w)
-            (let i : slotOf lo (r .level) < 64 = subst (λ (m : ℕ). slotOf lo m < 64) w a in
+            subst (λ (m : ℕ). Speaks (getD after (indexIn lo m) 0) m (r ∷ earlier)) (sym w)
+            (let i : indexIn lo (r .level) < 64 = subst (λ (m : ℕ). indexIn lo m < 64) w a in
             subst (λ (x : ℕ). Speaks x (r .level) (r ∷ earlier)) (sym (after-here i)) (here i))
         go (inr k) (inr w) =
             let z : l ≡ r .level + 1 = omega arith in
-            subst (λ (m : ℕ). Speaks (getD after (slotOf lo m) 0) m (r ∷ earlier)) (sym z)
-            (subst (λ (x : ℕ). Speaks x (r .level + 1) (r ∷ earlier)) (sym (after-own (subst (λ (m : ℕ). slotOf lo m < 64) z a) ∙ e)) (speaks-own r earlier))
+            subst (λ (m : ℕ). Speaks (getD after (indexIn lo m) 0) m (r ∷ earlier)) (sym z)
+            (subst (λ (x : ℕ). Speaks x (r .level + 1) (r ∷ earlier)) (sym (after-own (subst (λ (m : ℕ). indexIn lo m < 64) z a) ∙ e)) (speaks-own r earlier))
 
 -- ---- how deep the records are
 
@@ -102,7 +102,7 @@ pub record Placing (s : List ℕ) (lo : ℕ) (table : List ℕ) (at cap deepest 
   pub earlier : List Rec
   pub long : length table ≡ 64
   pub low : deepest < 1024
-  pub speaks : (l : ℕ) → slotOf lo l < 64 → l ≤ cap → Speaks (getD table (slotOf lo l) 0) l earlier
+  pub speaks : (l : ℕ) → indexIn lo l < 64 → l ≤ cap → Speaks (getD table (indexIn lo l) 0) l earlier
   pub within : (d end : ℕ) → deepest ≤ d → Within d end at (readFrom cap 0 (drop at s) .recs) → Within d end 0 (readAll s .recs)
   pub rest : strayIn lo (lo + 64) (length s) 0 [] (readAll s .recs)
       ≡ strayIn lo (lo + 64) (length s) at earlier (readFrom cap 0 (drop at s) .recs)
@@ -117,8 +117,8 @@ placing-start s lo table h e =
       speaks =
           λ l a q.
           let z : l ≡ 0 = omega arith in
-          let y : slotOf lo l ≡ 0 = omega arith in
-          subst (λ (m : ℕ). Speaks (getD table (slotOf lo l) 0) m []) (sym z)
+          let y : indexIn lo l ≡ 0 = omega arith in
+          subst (λ (m : ℕ). Speaks (getD table (indexIn lo l) 0) m []) (sym z)
           (subst (λ (c : ℕ). Speaks c 0 []) (sym (ap (λ (i : ℕ). getD table i 0) y ∙ e)) speaks-start);
       within = λ d end _ w. w;
       rest = refl;
@@ -136,15 +136,15 @@ module _ {s : List ℕ} {lo : ℕ} {table : List ℕ} {at cap deepest : ℕ} {h 
   here = k .rest ∙ ap (strayIn lo (lo + 64) (length s) at (k .earlier)) records
 
   abbrev its-code : ℕ
-  its-code = getD table (slotOf lo (d .rec .level)) 0
+  its-code = getD table (indexIn lo (d .rec .level)) 0
 
   judged : Judging lo its-code (d .rec) (k .earlier)
   judged = judging lo table (d .rec) (k .earlier) (k .long) (λ a. k .speaks (d .rec .level) a (d .obeys .level-cap))
 
   -- the seat by the record's own tag and level
-  at-tag : {i code : ℕ} {x y : Seat} → i ≡ slotOf lo (h .level) → code ≡ getD table i 0 → x ≡ seatOf code (h .tag) → x ≡ y → seatOf its-code (d .rec .tag) ≡ y
+  at-tag : {i code : ℕ} {x y : Seat} → i ≡ indexIn lo (h .level) → code ≡ getD table i 0 → x ≡ seatOf code (h .tag) → x ≡ y → seatOf its-code (d .rec .tag) ≡ y
   at-tag f c e q =
-      ap₂ seatOf (ap (λ (l : ℕ). getD table (slotOf lo l) 0) (sym (d .level-is)) ∙ ap (λ (i : ℕ). getD table i 0) (sym f) ∙ sym c) (sym (d .tag-is))
+      ap₂ seatOf (ap (λ (l : ℕ). getD table (indexIn lo l) 0) (sym (d .level-is)) ∙ ap (λ (i : ℕ). getD table i 0) (sym f) ∙ sym c) (sym (d .tag-is))
       ∙ sym e ∙ q
 
   stray-by : Judging lo its-code (d .rec) (k .earlier) → seatOf its-code (d .rec .tag) ≡ T.Stray → Sweeps s lo (record { stray = offset at; deepest = deepest })
@@ -174,13 +174,13 @@ module _ {s : List ℕ} {lo : ℕ} {table : List ℕ} {at cap deepest : ℕ} {h 
         rest = here ∙ first-miss _ _ lo (lo + 64) (length s) at (k .earlier) (d .rec) behind m;
       }
 
-  -- by what the code's steps gave: the slot, the number kept there, and the seat
-  module _ (i code : ℕ) (x : Seat) (f : i ≡ slotOf lo (h .level)) (g : code ≡ getD table i 0) (e : x ≡ seatOf code (h .tag)) where
+  -- by what the code's steps gave: the index, the number kept there, and the seat
+  module _ (i code : ℕ) (x : Seat) (f : i ≡ indexIn lo (h .level)) (g : code ≡ getD table i 0) (e : x ≡ seatOf code (h .tag)) where
     pub placing-stray : x ≡ T.Stray → Sweeps s lo (record { stray = offset at; deepest = deepest })
     placing-stray q = stray-by judged (at-tag f g e q)
 
     pub placing-next : (c own j deep : ℕ) (one two : List ℕ) → x ≡ T.Seated c → one ≡ set table i c → deep ≡ max deepest (h .level)
-        → j ≡ slotOf lo (h .level + 1) → own ≡ ownCode (h .tag) → two ≡ set one j own → Placing s lo two (h .next .0) (h .level + 1) deep
+        → j ≡ indexIn lo (h .level + 1) → own ≡ ownCode (h .tag) → two ≡ set one j own → Placing s lo two (h .next .0) (h .level + 1) deep
     placing-next c own j deep one two q k₁ m n o k₂ =
         rw (k₂, k₁, m, n, f, d .next-is, d .level-is) (next-by judged c own (at-tag f g e q) (o ∙ ap ownCode (d .tag-is)))
 

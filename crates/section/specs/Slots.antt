@@ -2,7 +2,7 @@
 -- `paragraphsFault` (Section), and `proofs/SlotLaws.antt` says that a slot holds the parts of its paragraph. A slot is six entries for the
 -- tags 66 to 71 of one paragraph: where its header stands, and one more; where its text, shapes, layout and marks stand, and one more; and how
 -- many control headers it has. 0 is none. In a window from lo on, the slot of the paragraphs whose children are at level n begins at 6 * (n - lo).
-use Prim.Native.Nat.{ℕ, zero, suc, _+_, _-_, _*_, _<_, min}
+use Prim.Native.Nat.{ℕ, zero, suc, _+_, _-_, _*_, min, max}
 use mathlib.Core.Path.{_≡_}
 use mathlib.Core.Bool.{Bool, true, false, cond, _&&_}
 use mathlib.Core.List.{List, [], _∷_}
@@ -112,4 +112,4 @@ faultIn lo hi s = firstIn below faulty lo hi (length s) 0 [] (recordsIn s)
 -- the greatest level, from m on
 unfoldable pub deepestFrom : ℕ → List Rec → ℕ
 deepestFrom m [] = m
-deepestFrom m (r ∷ rs) = deepestFrom (cond (ltb m (r .level)) (r .level) m) rs
+deepestFrom m (r ∷ rs) = deepestFrom (max m (r .level)) rs

@@ -11,8 +11,8 @@ use Rattle.section.specs.Windows.{firstIn}
 use Rattle.section.specs.declared.parents.Swept.{Swept}
 
 -- where the number for a level stands: level - lo, and 64 for a level less than lo. It is less than 64 exactly where the level is in the window
-abbrev pub slotOf : ℕ → ℕ → ℕ
-slotOf lo level = level - lo + 64 * min 1 (lo - level)
+abbrev pub indexIn : ℕ → ℕ → ℕ
+indexIn lo level = level - lo + 64 * min 1 (lo - level)
 
 -- the place of the earliest record of a level in the window that 9 can name, and e where there is none
 abbrev pub strayIn : ℕ → ℕ → ℕ → ℕ → List Rec → List Rec → ℕ

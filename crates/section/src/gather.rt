@@ -1,5 +1,6 @@
 // The paragraphs of a window of 64 levels in one pass: where the parts of each stand is noted until it ends, and then it is judged. A section
 // of ten levels takes one pass, however its paragraphs are nested; one of 1,000 takes sixteen.
+use crate::parents::deeper;
 use judgement::head_fault;
 use numbers::lesser;
 use numbers::wide;
@@ -12,8 +13,6 @@ use records::Kind;
 use records::Offset;
 use records::record_at;
 ghost use mathlib.Core.Path.{_≡_};
-ghost use mathlib.Core.Bool.{cond};
-ghost use lib.Dec.{ltb};
 ghost use mathlib.Core.Option.{none};
 ghost use Prim.Native.Nat.{ℕ, _+_, _-_, _*_, _≤_, _<_};
 ghost use lib.ListN.{length, getD};
@@ -171,13 +170,6 @@ fn judge_slots(s: &[u8], slots: &[u32]) -> usize
         i = i + 1;
     }
     first
-}
-
-// The greater of two levels.
-fn deeper(a: u32, b: u32) -> u32
-    ensures { λ r. ⌜ r ≡ cond (ltb a b) b a ⌝ }
-{
-    if a < b { b } else { a }
 }
 
 // What one pass finds: the place of the first paragraph at fault whose level is in the window, or the length of the stream; and how deep

@@ -11,7 +11,7 @@ ghost use lib.ListN.{getD, set};
 ghost use Rattle.records.specs.Reading.{readAll};
 ghost use Rattle.section.specs.Parents.{leaf, strayFrom, strayOf};
 ghost use Rattle.section.specs.Seats.{ownCode, bitOf, seatLeaf, seatOf};
-ghost use Rattle.section.specs.Sweeps.{slotOf, Sweeps};
+ghost use Rattle.section.specs.Sweeps.{indexIn, Sweeps};
 
 // The levels of one window.
 const LEVELS: u32 = 64;
@@ -92,8 +92,8 @@ fn take_seat(code: u8, tag: u32) -> Seat
 }
 
 // Where the number for a level stands among those of the window from lo on; LEVELS or more, where none stands, for a level outside it.
-fn slot(lo: u32, level: u32) -> usize
-    ensures { λ r. ⌜ r ≡ slotOf lo level ⌝ }
+fn index_in(lo: u32, level: u32) -> usize
+    ensures { λ r. ⌜ r ≡ indexIn lo level ⌝ }
 {
     if lo <= level {
         (level - lo) as usize
@@ -118,7 +118,8 @@ fn keep(table: &mut [u8], i: usize, code: u8)
     }
 }
 
-fn deeper(a: u32, b: u32) -> u32
+// The greater of two levels.
+pub fn deeper(a: u32, b: u32) -> u32
     ensures { λ r. ⌜ r ≡ max a b ⌝ }
 {
     if a < b { b } else { a }
@@ -139,7 +140,7 @@ fn sweep(s: &[u8], lo: u32) -> Swept
                 deepest,
             };
         };
-        let i = slot(lo, r.level);
+        let i = index_in(lo, r.level);
         match take_seat(kept(&table, i), r.tag) {
             Seat::Stray => {
                 return Swept { stray: at, deepest };
@@ -151,7 +152,7 @@ fn sweep(s: &[u8], lo: u32) -> Swept
         deepest = deeper(deepest, r.level);
         at = r.next;
         cap = r.level + 1;
-        keep(&mut table, slot(lo, cap), own_code(r.tag));
+        keep(&mut table, index_in(lo, cap), own_code(r.tag));
     }
 }
 

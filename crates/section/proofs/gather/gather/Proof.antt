@@ -15,7 +15,7 @@ use Rattle.section.proofs.gather.gather.Reads as reads
 use Rattle.section.proofs.gather.gather.Lts as lts
 use Rattle.numbers.proofs.lesser.Reads as lesser-reads
 use Rattle.records.proofs.record_at.Reads as record-at-reads
-use Rattle.section.proofs.gather.deeper.Reads as deeper-reads
+use Rattle.section.proofs.parents.deeper.Reads as deeper-reads
 use Rattle.section.proofs.gather.judge_slots.Reads as judge-slots-reads
 use Rattle.section.proofs.gather.note_child.Reads as note-child-reads
 use Rattle.section.proofs.gather.take_own.Reads as take-own-reads

@@ -16,7 +16,7 @@ use Rattle.section.proofs.parents.deeper.Reads as deeper-reads
 use Rattle.section.proofs.parents.keep.Reads as keep-reads
 use Rattle.section.proofs.parents.kept.Reads as kept-reads
 use Rattle.section.proofs.parents.own_code.Reads as own-code-reads
-use Rattle.section.proofs.parents.slot.Reads as slot-reads
+use Rattle.section.proofs.parents.index_in.Reads as index-in-reads
 use Rattle.section.proofs.parents.take_seat.Reads as take-seat-reads
 
 abbrev Inv-loop : tie.InvT-loop
@@ -48,8 +48,8 @@ returns c =
     let l = c .before .before in
     placing-end (l .loop .inv) (none-here (l .before .before .args .s .now) (l .loop .at .0) (l .loop .cap) _ (c .before .record-at .ensures) (c .match .keys2))
 
-slot-requires : tie.Need-slot-requires Inv-loop μ-loop
-slot-requires c κs = search needs
+index-in-requires : tie.Need-index-in-requires Inv-loop μ-loop
+index-in-requires c κs = search needs
 
 slice-aggregate-kept : tie.Need-slice-aggregate-kept Inv-loop μ-loop
 slice-aggregate-kept c = search needs
@@ -74,7 +74,7 @@ returns-2 : tie.Need-returns-2 Inv-loop μ-loop
 returns-2 c =
     let t = c .before .before in
     let d = record-of t in
-    placing-stray (head d .loop .inv) (its d) _ _ _ (t .before .before .before .slot .ensures) (t .before .kept .ensures) (t .take-seat .ensures)
+    placing-stray (head d .loop .inv) (its d) _ _ _ (t .before .before .before .index-in .ensures) (t .before .kept .ensures) (t .take-seat .ensures)
     (c .enum-told .given .1)
 
 enum-known-code : tie.Need-enum-known-code Inv-loop μ-loop
@@ -95,8 +95,8 @@ add-cap c = let d = record-of (seat-of (c .before .before .before .before)) in o
 slice-aggregate-keep-2 : tie.Need-slice-aggregate-keep-2 Inv-loop μ-loop
 slice-aggregate-keep-2 c = search needs
 
-slot-requires-2 : tie.Need-slot-requires-2 Inv-loop μ-loop
-slot-requires-2 c κs = search needs
+index-in-requires-2 : tie.Need-index-in-requires-2 Inv-loop μ-loop
+index-in-requires-2 c κs = search needs
 
 own-code-requires : tie.Need-own-code-requires Inv-loop μ-loop
 own-code-requires c κs = search needs
@@ -116,8 +116,8 @@ loop-again c =
     let t = seat-of k in
     let d = record-of t in
     let p = c .before .before .before .before .before .before .before in
-    placing-next (head d .loop .inv) (its d) _ _ _ (t .before .before .before .slot .ensures) (t .before .kept .ensures) (t .take-seat .ensures)
-    _ _ _ _ _ _ (k .before .before .before .code .given .1) (k .keep .ensures) (p .deeper .ensures) (c .before .before .before .slot2 .ensures)
+    placing-next (head d .loop .inv) (its d) _ _ _ (t .before .before .before .index-in .ensures) (t .before .kept .ensures) (t .take-seat .ensures)
+    _ _ _ _ _ _ (k .before .before .before .code .given .1) (k .keep .ensures) (p .deeper .ensures) (c .before .before .before .index-in2 .ensures)
     (c .before .before .own-code .ensures) (c .before .keep2 .ensures)
 
 pub sweep-spec : {M : Type 1} → statement M
@@ -130,7 +130,7 @@ sweep-spec =
     record-at-requires
     enum-known-r
     returns
-    slot-requires
+    index-in-requires
     slice-aggregate-kept
     kept-requires
     take-seat-requires
@@ -142,7 +142,7 @@ sweep-spec =
     deeper-requires
     add-cap
     slice-aggregate-keep-2
-    slot-requires-2
+    index-in-requires-2
     own-code-requires
     keep-requires-2
     loop-less
