@@ -17,22 +17,27 @@
 static const char *now = "start"; /* the case at hand */
 static unsigned checks, failed;
 
-static void trapped(int number)
+/* Ends the program where it trapped, with words. */
+static void say_trap(const char *what)
 {
-    static const char text[] = PROGRAM ": FAILED, memory outside was touched: ";
-    ssize_t done = write(1, text, sizeof text - 1);
-    done += write(1, now, strlen(now));
-    done += write(1, "\n", 1);
-    (void)number;
+    const char *const words[] = {PROGRAM ": FAILED, ", what, ": ", now, "\n"};
+    ssize_t done = 0;
+    for (size_t i = 0; i < sizeof words / sizeof *words; i++)
+        done += write(1, words[i], strlen(words[i]));
     _exit(done > 0 ? 1 : 2);
 }
 
-static void catch_traps(void)
+static inline void trapped(int number)
+{
+    (void)number;
+    say_trap("memory outside was touched");
+}
+
+static inline void catch_traps(void)
 {
     struct sigaction action;
     memset(&action, 0, sizeof action);
     action.sa_handler = trapped;
-    action.sa_flags = SA_ONSTACK; /* for where it is a stack that ran into the page */
     sigaction(SIGSEGV, &action, NULL);
     sigaction(SIGBUS, &action, NULL);
 }

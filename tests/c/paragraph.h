@@ -33,6 +33,7 @@ struct paragraph {
     uint32_t flag; /* bit 31 of the count */
     uint32_t id;
     int altered;
+    int bare; /* nothing stands below the control header */
 };
 
 static inline void put_half(struct stream *s, unsigned n)
@@ -98,7 +99,7 @@ static inline void put_entries(struct stream *s, const struct paragraph *p)
     }
 }
 
-/* The control header of the field, and control data below it. */
+/* The control header of the field, and control data below it unless it is bare. */
 static inline void put_field(struct stream *s, const struct paragraph *p)
 {
     put_header(s, 71, p->level + 1, 15 + 4 + 2);
@@ -109,7 +110,8 @@ static inline void put_field(struct stream *s, const struct paragraph *p)
     put_word(s, 0x00420041);
     put_word(s, p->id);
     put_half(s, 0x5555); /* a tail behind the id */
-    put_record(s, 87, p->level + 2, 3);
+    if (!p->bare)
+        put_record(s, 87, p->level + 2, 3);
 }
 
 static inline void put_paragraph(struct stream *s, const struct paragraph *p)
@@ -122,5 +124,5 @@ static inline void put_paragraph(struct stream *s, const struct paragraph *p)
     put_field(s, p);
 }
 
-/* The place of the field's control header, where a paragraph stands at the end of a stream. */
+/* The place of the field's control header, where a paragraph that is not bare stands at the end of a stream. */
 static inline size_t control_header_of(const struct stream *s) { return s->length - 4 - 21 - 4 - 3; }
