@@ -45,10 +45,16 @@ pub fn paragraphs(rows: &[Row]) -> Vec<Paragraph> {
     found
 }
 
-/// What the section's rules say of a paragraph that has these parts, with the place in the stream that they are from.
+/// What the rules but 9 say of a paragraph that has these parts, with the place in the stream that they are from. Of two
+/// records 67 to 70 of one tag it has the first.
 pub fn refusal(stream: &[u8], rows: &[Row], header: usize, parts: &[usize]) -> Option<Refusal> {
     let mut order = vec![header];
-    order.extend(parts);
+    for &part in parts {
+        let doubled = |&other: &usize| rows[other].tag == rows[part].tag;
+        if rows[part].tag == CONTROL || !order.iter().any(doubled) {
+            order.push(part);
+        }
+    }
     // behind the text there is nothing, so that its end is no other record's header
     order[1..].sort_by_key(|&index| rows[index].tag == TEXT);
     let mut alone = Vec::new();
@@ -65,7 +71,7 @@ pub fn refusal(stream: &[u8], rows: &[Row], header: usize, parts: &[usize]) -> O
     Some(Refusal { place, ..refused })
 }
 
-/// What the section's rules say of a paragraph.
+/// What the rules but 9 say of a paragraph.
 pub fn refused(stream: &[u8], rows: &[Row], paragraph: &Paragraph) -> Option<Refusal> {
     refusal(stream, rows, paragraph.header, &paragraph.parts)
 }

@@ -148,11 +148,9 @@ impl Service {
             LONG_FAULT if self == Service::Pack => packing::long_fault(&mut random, which),
             LONG_FAULT if !self.faults().is_empty() => self.long_fault(&mut random, which),
             LONG => self.long_case(&mut random, which),
-            _ => match self.deep_every() {
-                Some(every) if index % every == DEEP => {
-                    self.deep_case(&mut random, (index / every) as usize)
-                }
-                _ => self.short_case(&mut random),
+            _ => match self.deep(index) {
+                Some(which) => self.deep_case(&mut random, which),
+                None => self.short_case(&mut random),
             },
         };
         (case, shift)
@@ -172,6 +170,12 @@ impl Service {
             Service::TwoFills => Some(50),
             _ => Some(5),
         }
+    }
+
+    /// Which of its deep cases the one with this index is, where it is one.
+    pub fn deep(self, index: u64) -> Option<usize> {
+        let every = self.deep_every().filter(|every| index % every == DEEP)?;
+        Some((index / every) as usize)
     }
 
     fn deep_case(self, random: &mut Random, which: usize) -> Case {

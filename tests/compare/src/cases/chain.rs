@@ -18,13 +18,14 @@ pub fn edge_levels() -> Vec<u32> {
 pub fn level_between(random: &mut Random, first: u32, last: u32) -> u32 {
     let any = random.from_to(first as usize, last as usize) as u32;
     let edges = edge_levels();
-    let by = random.pick(&[BLOCK, 2 * BLOCK, 4 * BLOCK]);
-    let level = match random.below(8) {
+    let block = random.pick(&[BLOCK, 2 * BLOCK, 4 * BLOCK]);
+    let level = match random.below(10) {
         0 => any,
         1 => first,
         2 => last,
-        3 => first + by,
-        4 => last.saturating_sub(by),
+        3 => first + block,
+        4 => last.saturating_sub(block),
+        5..=7 => any / block * block + random.pick(&[0, 1, block - 1]),
         _ => random.pick(&edges),
     };
     if (first..=last).contains(&level) {

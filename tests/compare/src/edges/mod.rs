@@ -14,7 +14,7 @@ mod trees;
 pub use counts::Counted;
 pub use entries::Entry;
 pub use headers::Header;
-pub use strays::Stray;
+pub use strays::{way, Stray};
 pub use texts::Text;
 
 use crate::judge::{Case, Outcome};
