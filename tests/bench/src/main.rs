@@ -137,7 +137,8 @@ fn bench_depth(body: usize) {
 /// The library that was built before, and this one, in turn.
 #[cfg(before)]
 fn bench_beside() {
-    println!("before and after: medians of {} rounds, in every other of which after runs first, and of their ratios", 2 * ROUNDS);
+    let rounds = 2 * ROUNDS;
+    println!("before and after: medians of {rounds} rounds and of their ratios; after runs first in every other");
     for (name, service) in OF_HOST {
         for length in LENGTHS {
             let section = shape::section(length);

@@ -4,7 +4,7 @@ use crate::cases::paragraphs::{CONTROL, PARAGRAPH, TEXT};
 use crate::cases::records::{write_record, Draft};
 use oracle::{check, Refusal, Row};
 
-/// A paragraph: the indexes of its header and of its records 67 to 71, in stream order, and that behind its last record.
+/// A paragraph: the indexes of its header and of its records 67 to 71, in stream order, and that behind its last one.
 #[derive(Clone, Debug, PartialEq, Eq)]
 pub struct Paragraph {
     pub header: usize,
@@ -45,8 +45,8 @@ pub fn paragraphs(rows: &[Row]) -> Vec<Paragraph> {
     found
 }
 
-/// What the rules but 9 say of a paragraph that has these parts, with the place in the stream that they are from. Of two
-/// records 67 to 70 of one tag it has the first.
+/// What the rules but 9 say of a paragraph that has these parts, with the place in the stream that they are from.
+/// Of two records 67 to 70 of one tag it has the first.
 pub fn refusal(stream: &[u8], rows: &[Row], header: usize, parts: &[usize]) -> Option<Refusal> {
     let mut order = vec![header];
     for &part in parts {

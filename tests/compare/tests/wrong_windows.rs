@@ -1,9 +1,9 @@
-//! Deliberately wrong ways to judge a section in windows of levels, or its paragraphs as they end: the comparison catches
-//! each of them by its deep cases.
+//! Deliberately wrong ways to judge a section in windows of levels, or its paragraphs as they end: the deep cases of the
+//! comparison catch each of them.
 
 use compare::alone::{paragraphs, refusal, refused, Paragraph};
 use compare::cases::chain::edge_levels;
-use compare::cases::nests::LAST;
+use compare::cases::nests::{LAST, NUMBERS};
 use compare::cases::strays::{at_edges, Way};
 use compare::edges::{way, Stray, BLOCKS};
 use compare::judge::{judge, number_of};
@@ -208,7 +208,10 @@ fn wrong_windows(width: u32) -> Vec<(&'static str, Windows)> {
         ("no second level", level(|at, _| at != 1)),
         ("the first window alone", window(|nth, _| nth == 0)),
         ("no last window", window(|nth, of| nth == 0 || nth + 1 < of)),
-        ("no sixteenth of the stack", window(|nth, _| nth < 15)),
+        (
+            "no sixteenth window and none below",
+            window(|nth, _| nth < 15),
+        ),
         ("no window but even ones", window(|nth, _| nth % 2 == 0)),
         (
             "the later stray",
@@ -336,7 +339,14 @@ fn up_to_next_header(all: &[Paragraph], nth: usize) -> impl Iterator<Item = usiz
     parts.filter(move |part| own.contains(part))
 }
 
-const WRONG_PARTS: [(&str, Parts); 10] = [
+const WRONG_PARTS: [(&str, Parts); 11] = [
+    ("none behind an inner paragraph", |_, all, nth| {
+        let inner = inner(all, nth).map_or(usize::MAX, |inner| inner.header);
+        parts_that(&all[nth], |part| part < inner)
+    }),
+    ("none at the last level", |rows, all, nth| {
+        parts_that(&all[nth], |part| rows[part].level <= LAST)
+    }),
     (
         "none at the first level of a window of 16",
         |rows, all, nth| parts_that(&all[nth], |part| rows[part].level % 16 != 0),
@@ -345,10 +355,6 @@ const WRONG_PARTS: [(&str, Parts); 10] = [
         "none at the first level of a window of 64",
         |rows, all, nth| parts_that(&all[nth], |part| rows[part].level % 64 != 0),
     ),
-    ("none behind an inner paragraph", |_, all, nth| {
-        let inner = inner(all, nth).map_or(usize::MAX, |inner| inner.header);
-        parts_that(&all[nth], |part| part < inner)
-    }),
     ("none behind a deeper window", |rows, all, nth| {
         let header = all[nth].header;
         let window = (rows[header].level + 1) / 16;
@@ -474,6 +480,117 @@ fn each_wrong_gathering_is_caught() {
         let judge = |&(name, parts): &(&str, Parts)| (name.to_string(), gather(parts, RIGHT_NAMED));
         wrong.map(judge).collect()
     });
+}
+
+/// Right but where a section is refused with this number.
+fn only<'a>(number: u8, wrong: Judge<'a>) -> Judge<'a> {
+    let right = gather(RIGHT_PARTS, RIGHT_NAMED);
+    Box::new(move |stream, rows| {
+        let right = right(stream, rows);
+        match right {
+            Some(refusal) if refusal.number == number => wrong(stream, rows),
+            _ => right,
+        }
+    })
+}
+
+/// A program that is wrong where one number is right, and nowhere else, is caught, whichever the number.
+#[test]
+fn each_wrong_name_is_caught_by_each_number() {
+    for number in NUMBERS {
+        each_is_caught(|| {
+            let names = WRONG_NAMES[..7].iter();
+            let wrong = names.map(|&(name, named)| (name, gather(RIGHT_PARTS, named)));
+            let (name, parts) = WRONG_PARTS[0];
+            let parts = (number != 8).then(|| (name, gather(parts, RIGHT_NAMED)));
+            let wrong = wrong.chain(parts);
+            wrong
+                .map(|(name, judge)| (format!("{number}, {name}"), only(number, judge)))
+                .collect()
+        });
+    }
+}
+
+/// A program that has room for so many open paragraphs is caught.
+#[test]
+fn too_little_room_for_open_paragraphs_is_caught() {
+    for room in [64, 512, 1000, 1022] {
+        each_is_caught(|| {
+            let judge: Judge = Box::new(move |stream, rows| {
+                let headers = rows.iter().filter(|row| row.tag == 66);
+                let levels: BTreeSet<u32> = headers.map(|row| row.level).collect();
+                match levels.len() > room {
+                    true => stray_at(rows, 0),
+                    false => gather(RIGHT_PARTS, RIGHT_NAMED)(stream, rows),
+                }
+            });
+            vec![(format!("{room}"), judge)]
+        });
+    }
+}
+
+/// The oracle that does not find a field whose text stands at some levels.
+struct Unfound(fn(u32) -> bool);
+
+impl Unfound {
+    fn of(&self, section: Given<u8>, id: u32, found: u64) -> u64 {
+        // SAFETY: as above.
+        let section = unsafe { section.slice() };
+        let place = oracle::field_text(section, id).map_or(usize::MAX, |part| part.0);
+        let rows = tile(section).unwrap_or_default();
+        let mut rows = rows.iter();
+        let text = rows.find(|row| (row.place as usize..row.end()).contains(&place));
+        match text.filter(|text| number_of(found) == 0 && (self.0)(text.level)) {
+            Some(_) => answer(21, 0, 0),
+            None => found,
+        }
+    }
+}
+
+impl Subject for Unfound {
+    fn read(&self, kind: Kind, stream: Given<u8>, lists: Lists) -> u64 {
+        Oracle.read(kind, stream, lists)
+    }
+
+    fn pack(&self, count: u64, lists: Table, bytes: Given<u8>, out: Room<u8>) -> u64 {
+        Oracle.pack(count, lists, bytes, out)
+    }
+
+    fn check(&self, section: Given<u8>) -> u64 {
+        Oracle.check(section)
+    }
+
+    fn field_text(&self, section: Given<u8>, id: u32) -> u64 {
+        self.of(section, id, Oracle.field_text(section, id))
+    }
+
+    fn fill(&self, section: Given<u8>, id: u32, value: Given<u8>, sheet: Room<u8>) -> u64 {
+        self.of(section, id, Oracle.fill(section, id, value, sheet))
+    }
+
+    fn list(&self, input: &[u8], most: usize) -> Vec<u8> {
+        Oracle.list(input, most)
+    }
+}
+
+#[test]
+fn each_field_that_is_not_found_is_caught() {
+    const LEVELS: [fn(u32) -> bool; 4] = [
+        |level| level == LAST + 1,
+        |level| level % 16 == 0,
+        |level| level % 32 == 0,
+        |level| level % 64 == 0,
+    ];
+    for service in [Service::FieldText, Service::Fill] {
+        for (nth, levels) in LEVELS.into_iter().enumerate() {
+            let subject = Unfound(levels);
+            let mut cases = deep(service, CASES);
+            assert!(
+                cases.any(|index| differs(service, index, &subject)),
+                "{service:?}: {nth}"
+            );
+        }
+    }
 }
 
 /// Rule 9 without one way at one level.

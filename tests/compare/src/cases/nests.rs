@@ -2,7 +2,7 @@
 
 use crate::cases::chain::{edge_levels, level_between, Chain, Links};
 use crate::cases::paragraphs::{control, deep, field_body, ordinary, units_to_bytes, Text};
-use crate::cases::paragraphs::{CONTROL, EXTENDED, LAYOUT, PARAGRAPH, SHAPES, TEXT};
+use crate::cases::paragraphs::{CONTROL, EXTENDED, LAYOUT, MARKS, PARAGRAPH, SHAPES, TEXT};
 use crate::cases::records::Draft;
 use crate::cases::trees::DEEPEST;
 use crate::random::Random;
@@ -71,20 +71,31 @@ impl Paragraph {
             header[16] = 1;
             below.push((LAYOUT, Vec::new()));
         }
+        // a field beside marks is not filled
+        if random.once_in(3) && text.controls.iter().all(Option::is_none) {
+            header[14] = 1;
+            below.push((MARKS, vec![0; 12]));
+        }
         random.shuffle(&mut below);
+        let mut paragraph = Paragraph { header, below };
         for id in text.controls {
-            let body = id.map_or(Vec::new(), |id| field_body(random, id));
-            let at = random.pick(&[below.len(), below.len(), below.len() - 1]);
-            let last = below.iter().rposition(|(tag, _)| *tag == CONTROL);
-            let at = last.map_or(at, |last| at.max(last + 1));
-            below.insert(at, (CONTROL, body));
+            paragraph.control(random, id);
             ids.extend(id);
         }
-        let mut paragraph = Paragraph { header, below };
         if let Some(number) = fault {
             paragraph.break_rule(random, number);
         }
         paragraph
+    }
+
+    /// A control header behind those that are there, at times before another record.
+    fn control(&mut self, random: &mut Random, id: Option<u32>) {
+        let body = id.map_or(Vec::new(), |id| field_body(random, id));
+        let end = self.below.len();
+        let last = self.below.iter().rposition(|(tag, _)| *tag == CONTROL);
+        let at = random.pick(&[end, end, end - 1]);
+        let at = last.map_or(at, |last| at.max(last + 1));
+        self.below.insert(at, (CONTROL, body));
     }
 
     /// The body of its last record with the tag.
@@ -117,12 +128,13 @@ impl Paragraph {
         }
     }
 
-    /// 11 and 13 by the shapes, 12 by the text, which lacks its end, 15 by the last field.
+    /// 11 and 13 by the shapes or the marks, 12 by the text, which lacks its end, 15 by the last field.
     fn break_body(&mut self, random: &mut Random, number: u8) {
         let short = random.below(15);
         let tag = match number {
             12 => TEXT,
             15 => CONTROL,
+            _ if self.header[14] > 0 && random.once_in(2) => MARKS,
             _ => SHAPES,
         };
         let Some(body) = self.body(tag) else { return };
@@ -202,8 +214,8 @@ fn section(random: &mut Random, nests: &[&[(u32, Option<u8>)]]) -> (Vec<Draft>, 
     (chain.drafts, ids)
 }
 
-/// A section with one paragraph at fault or two, of which the first in the stream is the one to name. It goes through the
-/// numbers, and through the levels at the edges of blocks, as `which` rises.
+/// A section with one paragraph at fault or two, of which the first in the stream is the one to name. It goes through
+/// the numbers, and through the levels at the edges of blocks, as `which` rises.
 pub fn faulty(random: &mut Random, which: usize) -> (Vec<Draft>, Vec<u32>) {
     let levels = edge_levels();
     let level = levels[which % (levels.len() - 1)];

@@ -126,7 +126,7 @@ fn links(random: &mut Random) -> Links {
     random.pick(&[Links::Other, Links::Other, Links::Headers, Links::Mixed])
 }
 
-/// Where a chain may go down again for a stray of a level, behind one that went to another: from level 0 or further down.
+/// Where a chain goes down again for a stray of a level, behind one that went to another: from level 0 or further down.
 fn again_from(random: &mut Random, reached: u32, level: u32) -> u32 {
     let most = reached.min(level).saturating_sub(2);
     let any = random.below(most as usize + 1) as u32;

@@ -123,7 +123,7 @@ pub fn of_fields() -> Vec<Edge> {
 
 pub fn edges() -> Vec<Edge> {
     let mut edges: Vec<Edge> = BLOCKS.into_iter().flat_map(of_blocks).collect();
-    edges.extend(OWN.into_iter().filter(|tag| *tag != OWN[3]).map(|tag| {
+    edges.extend(OWN.map(|tag| {
         let name = format!("accepted, record {tag} at level {DEEPEST}");
         Edge::new(name, 0, move |it: &Depth| {
             it.any(|nested| nested.level == LAST && nested.tags.contains(&tag))

@@ -1,4 +1,4 @@
-//! Edges of 8 and 10 to 15: the paragraph that is named beside the others that are at fault, by the blocks of their levels.
+//! Edges of 8 and 10 to 15: the paragraph that is named beside others, at fault or not, by the blocks of their levels.
 
 use super::BLOCKS;
 use crate::alone::{paragraphs, refused, Paragraph};
