@@ -4,9 +4,9 @@ use crate::cases::records::Draft;
 use crate::cases::{nests, strays};
 use crate::random::Random;
 
-/// Of so many deep sections the first have one stray; one more has two strays, three have a faulty paragraph, one is
+/// Of so many deep sections the first have one stray; one more has two strays, three have a faulty paragraph, two are
 /// lawful. Each fits the lister.
-const ROUND: usize = 8;
+const ROUND: usize = 9;
 const ONE: usize = 3;
 
 /// The deep section with this number, and the ids of the fields of its paragraphs.

@@ -186,10 +186,14 @@ pub fn field_text_of(random: &mut Random, section: Vec<u8>, ids: &[u32]) -> Case
     Case::FieldText { section, id }
 }
 
-/// A fill of one of the fields of a section, or of another id.
+/// A fill of one of the fields of a section, or of another id; most of the values are good.
 pub fn fill_of(random: &mut Random, section: Vec<u8>, ids: &[u32]) -> Case {
     let id = id_of(random, ids);
-    let value = value(random);
+    let value = if random.once_in(4) {
+        value(random)
+    } else {
+        good_value(random)
+    };
     fill_with(random, section, Filling { id, value })
 }
 

@@ -42,7 +42,7 @@ fn text(random: &mut Random, fault: Option<u8>) -> Text {
     let kind = match fault {
         Some(15) => 3,
         Some(12) => random.from_to(1, 3),
-        _ => random.pick(&[0, 1, 2, 3, 3]),
+        _ => random.pick(&[0, 1, 2, 3, 3, 3]),
     };
     if kind == 0 {
         return text;
