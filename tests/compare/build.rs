@@ -2,7 +2,7 @@
 
 use std::path::Path;
 
-fn main() {
+pub fn main() {
     let native = Path::new(env!("CARGO_MANIFEST_DIR")).join("../../target/native");
     for archive in ["libhost.a", "liblister.a"] {
         let path = native.join(archive);

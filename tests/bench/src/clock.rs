@@ -25,15 +25,50 @@ pub fn medians<const N: usize>(mut calls: [&mut dyn FnMut() -> u64; N]) -> [f64;
             }
         }
     }
-    times.map(|mut times| {
-        times.sort_by(f64::total_cmp);
-        times[ROUNDS / 2]
-    })
+    times.map(median)
+}
+
+/// The medians of two calls, and that of what the second takes in a round beside the first: each is the first in every
+/// other round, and what slows the machine down for a while slows both.
+#[cfg(before)]
+pub fn beside(before: &mut dyn FnMut() -> u64, after: &mut dyn FnMut() -> u64) -> [f64; 3] {
+    let mut times: [Vec<f64>; 3] = [(); 3].map(|()| Vec::new());
+    for round in 0..2 * ROUNDS {
+        let [took_before, took_after] = if round % 2 == 0 {
+            [timed(before).0, timed(after).0]
+        } else {
+            let took_after = timed(after).0;
+            [timed(before).0, took_after]
+        };
+        times[0].push(took_before);
+        times[1].push(took_after);
+        times[2].push(took_after / took_before);
+    }
+    times.map(median)
+}
+
+fn median(mut times: Vec<f64>) -> f64 {
+    times.sort_by(f64::total_cmp);
+    times[times.len() / 2]
+}
+
+/// A call that takes longer than this, in milliseconds, is not made again.
+const SLOW: f64 = 3000.0;
+
+/// The milliseconds of a call that may take minutes, of how many rounds they are the median, and the answer.
+fn patiently(call: &mut dyn FnMut() -> u64) -> (f64, usize, u64) {
+    let (took, answer) = timed(call);
+    let mut times = vec![took];
+    if took < SLOW {
+        times.extend([(); 2].map(|()| timed(call).0));
+    }
+    let rounds = times.len();
+    (median(times), rounds, answer)
 }
 
 /// The least that any reader of a lawful stream does: it goes from header to header and adds them up. It asks no rule
 /// and keeps no list.
-fn bare_pass(stream: &[u8]) -> u64 {
+pub fn bare_pass(stream: &[u8]) -> u64 {
     let (mut at, mut sum) = (0, 0);
     while at < stream.len() {
         let header = word(stream, at);
@@ -88,13 +123,14 @@ impl Times {
         }
     }
 
-    /// The library in one round alone, for where it takes minutes; the others as ever.
-    pub fn of_one_round([mut library, oracle]: Pair, stream: &[u8]) -> Times {
-        let (took, answer) = timed(&mut library);
+    /// The library in three rounds, or in one where it is slow; the others as ever. Gives the library's rounds too.
+    pub fn of_slow([mut library, oracle]: Pair, stream: &[u8]) -> (Times, usize) {
+        let (took, rounds, answer) = patiently(&mut library);
         let times = Times::of([Box::new(move || answer), oracle], stream);
-        Times {
+        let times = Times {
             library: took,
             ..times
-        }
+        };
+        (times, rounds)
     }
 }

@@ -1,18 +1,23 @@
 //! bench: times of the linked library beside those of the oracle, of a bare pass over the headers and of a memory copy,
 //! in one run. `bench --hostile [BYTES]` measures deep nesting alone, at the limit where no number of bytes is given.
-//! It says what was measured and never fails on a time.
+//! Where it was built with HWP_BEFORE, the full path of another archive, it has that library too, and `bench --beside`
+//! measures the two alone. It says what was measured and never fails on a time.
 
+#[cfg(before)]
+mod before;
 mod clock;
 #[path = "../../compare/src/native.rs"]
 mod native;
 mod services;
 mod shape;
 
-use clock::{medians, Times, ROUNDS};
+use clock::{bare_pass, medians, Times, ROUNDS};
 use compare::cases::sections::{hostile, HOSTILE};
 use compare::random::Random;
+use native::Native;
 use oracle::LIMIT;
-use services::Service;
+use services::{pair, Service, OF_HOST};
+use std::hint::black_box;
 use std::process::ExitCode;
 
 fn size(bytes: usize) -> String {
@@ -55,10 +60,11 @@ fn per_record(title: &str, records: usize, times: &Times) {
 fn bench_read(name: &str, stream: &[u8]) {
     let records = say_records(name, stream);
     let title = format!("read, {name}");
-    let times = Times::of(services::read(stream), stream);
+    let times = Times::of(pair(services::read, stream), stream);
     line(&title, stream.len(), &times);
     per_record(&title, records, &times);
-    let ([mut library, _], mut other) = (services::read(stream), services::read_into(stream));
+    let mut library = services::read(&Native, stream);
+    let mut other = services::read_into(stream);
     let [library, lent] = medians([&mut library, &mut other]);
     let ratio = library / lent;
     println!(
@@ -69,7 +75,7 @@ fn bench_read(name: &str, stream: &[u8]) {
         ("pack", services::pack),
     ];
     for (service, call) in services {
-        let times = Times::of(call(stream), stream);
+        let times = Times::of(pair(call, stream), stream);
         line(&format!("{service}, {name}"), stream.len(), &times);
     }
 }
@@ -85,35 +91,82 @@ fn growth(name: &str, points: &[(usize, f64)]) {
     println!("{name}: growth exponents {}", exponents.join(", "));
 }
 
+/// The lengths of sections of real shape; a fill has room below the limit.
+const LENGTHS: [usize; 3] = [1 << 16, 1 << 20, LIMIT - 4096];
+
 fn bench_host() {
-    let services: [(&str, Service); 3] = [
-        ("check", services::check),
-        ("field text", services::field_text),
-        ("fill", services::fill),
-    ];
-    for (name, service) in services {
+    for (name, service) in OF_HOST {
         let mut points = Vec::new();
-        for length in [1 << 16, 1 << 20, LIMIT - 4096] {
+        for length in LENGTHS {
             let section = shape::section(length);
-            let times = Times::of(service(&section), &section);
+            let times = Times::of(pair(service, &section), &section);
             line(name, section.len(), &times);
             points.push((section.len(), times.library));
         }
         growth(name, &points);
     }
     let section = hostile(&mut Random::new(1), HOSTILE);
-    for (name, service) in services {
-        let times = Times::of(service(&section), &section);
+    for (name, service) in OF_HOST {
+        let times = Times::of(pair(service, &section), &section);
         line(&format!("{name}, deep nesting"), section.len(), &times);
     }
 }
 
+/// So many levels are judged in one pass.
+const WINDOW: u32 = 64;
+
+/// What the levels of chains cost check, in bare passes, beside as many records at level 0.
+fn bench_depth(body: usize) {
+    let deep = shape::small(LIMIT, body, shape::CHAINS);
+    let flat = shape::small(LIMIT, body, shape::FLAT);
+    let check = |stream| services::check(&Native, stream);
+    let [took, at_0, bare] = medians([&mut check(&deep), &mut check(&flat), &mut || {
+        bare_pass(black_box(&deep))
+    }]);
+    let cost = (took - at_0) / bare;
+    let allowed = f64::from(shape::CHAIN) / f64::from(WINDOW) + 1.0;
+    println!(
+        "check, chains of {} levels, bodies of {body} bytes, {}: {took:.3} ms, at level 0 {at_0:.3} ms, \
+         bare pass {bare:.3} ms; the deeper levels cost {cost:.2} bare passes, where windows of {WINDOW} levels \
+         are {allowed:.1}",
+        shape::CHAIN,
+        size(deep.len())
+    );
+}
+
+/// The library that was built before, and this one, in turn.
+#[cfg(before)]
+fn bench_beside() {
+    let rounds = 2 * ROUNDS;
+    println!("before and after: medians of {rounds} rounds and of their ratios; after runs first in every other");
+    for (name, service) in OF_HOST {
+        for length in LENGTHS {
+            let section = shape::section(length);
+            let mut before = service(&before::Before, &section);
+            let mut after = service(&Native, &section);
+            assert_eq!(before(), after(), "the two libraries differ");
+            let [before, after, ratio] = clock::beside(&mut before, &mut after);
+            println!(
+                "{name}, {}: before {before:.3} ms, after {after:.3} ms; after/before {ratio:.3}",
+                size(section.len())
+            );
+        }
+    }
+}
+
+#[cfg(not(before))]
+fn bench_beside() {}
+
 fn bench_all() {
+    bench_beside();
     bench_read("real shape", &shape::section(LIMIT));
     bench_read("deep nesting", &hostile(&mut Random::new(1), HOSTILE));
     // parents take as long at depth as where there are none
     for (name, level) in shape::SMALL {
-        bench_read(name, &shape::small(LIMIT, level));
+        bench_read(name, &shape::small(LIMIT, 4, level));
+    }
+    for body in [4, 0] {
+        bench_depth(body);
     }
     bench_host();
 }
@@ -127,8 +180,8 @@ fn bench_hostile(length: usize) {
         ("section read", services::section_read),
     ];
     for (name, service) in services {
-        let times = Times::of_one_round(service(&section), &section);
-        let title = format!("{name}, deep nesting, the library in one round");
+        let (times, rounds) = Times::of_slow(pair(service, &section), &section);
+        let title = format!("{name}, deep nesting, library: rounds {rounds}");
         line(&title, section.len(), &times);
     }
 }
@@ -137,6 +190,7 @@ fn bench_hostile(length: usize) {
 enum Asked {
     All,
     Hostile(usize),
+    Beside,
 }
 
 fn asked(words: &[&str]) -> Option<Asked> {
@@ -145,6 +199,7 @@ fn asked(words: &[&str]) -> Option<Asked> {
         [] => Some(Asked::All),
         ["--hostile"] => Some(Asked::Hostile(LIMIT)),
         ["--hostile", bytes] => bytes.parse().ok().filter(lawful).map(Asked::Hostile),
+        ["--beside"] if cfg!(before) => Some(Asked::Beside),
         _ => None,
     }
 }
@@ -153,7 +208,7 @@ fn main() -> ExitCode {
     let words: Vec<String> = std::env::args().skip(1).collect();
     let words: Vec<&str> = words.iter().map(String::as_str).collect();
     let Some(asked) = asked(&words) else {
-        eprintln!("usage: bench [--hostile [BYTES]], at most {LIMIT} bytes");
+        eprintln!("usage: bench [--hostile [BYTES]], at most {LIMIT} bytes; or --beside, if built with HWP_BEFORE");
         return ExitCode::from(2);
     };
     println!("medians of {ROUNDS} rounds after one; in each round every call runs once, in turn");
@@ -164,6 +219,7 @@ fn main() -> ExitCode {
     match asked {
         Asked::All => bench_all(),
         Asked::Hostile(length) => bench_hostile(length),
+        Asked::Beside => bench_beside(),
     }
     ExitCode::SUCCESS
 }

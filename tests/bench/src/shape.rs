@@ -74,20 +74,29 @@ fn field(random: &mut Random, stream: &mut Vec<u8>) {
     put(stream, 71, 1, body);
 }
 
-/// How the levels of many small records go, by the record's index.
-pub const SMALL: [(&str, fn(usize) -> u32); 3] = [
-    ("all at level 0", |_| 0),
-    ("chains of 1,000 levels", |index| (index % 1000) as u32),
+/// The level of a record by its index.
+pub type Levels = fn(usize) -> u32;
+
+/// The levels of a chain; then the next chain starts.
+pub const CHAIN: u32 = 1000;
+
+pub const FLAT: Levels = |_| 0;
+pub const CHAINS: Levels = |index| index as u32 % CHAIN;
+
+/// How the levels of many small records go.
+pub const SMALL: [(&str, Levels); 3] = [
+    ("all at level 0", FLAT),
+    ("chains of 1,000 levels", CHAINS),
     ("children of one at level 1,000", |index| {
         index.min(1001) as u32
     }),
 ];
 
-/// A lawful stream of records of eight bytes with their headers, as many as fit into so many bytes.
-pub fn small(length: usize, level: fn(usize) -> u32) -> Vec<u8> {
+/// A lawful stream of records with bodies of so many bytes, as many as fit into a length.
+pub fn small(length: usize, body: usize, level: Levels) -> Vec<u8> {
     let mut stream = Vec::with_capacity(length);
-    for index in 0..length / 8 {
-        put(&mut stream, 200, level(index), vec![0x55; 4]);
+    for index in 0..length / (4 + body) {
+        put(&mut stream, 200, level(index), vec![0x55; body]);
     }
     stream
 }

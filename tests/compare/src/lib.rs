@@ -1,5 +1,6 @@
 //! Compares the proved library with the oracle, case by case, in every answer, entry and byte.
 
+pub mod alone;
 pub mod cases;
 pub mod edges;
 pub mod judge;

@@ -1,7 +1,8 @@
 //! The services that are compared: their cases, and the numbers and edges that must be reached.
 
 use crate::cases::faults::{self, Fault};
-use crate::cases::{docinfo, fills, packing, records, sections};
+use crate::cases::records::write_stream;
+use crate::cases::{deep, docinfo, fills, packing, records, sections};
 use crate::edges::Edges;
 use crate::judge::{Case, Filling};
 use crate::random::Random;
@@ -42,6 +43,9 @@ const LONG_FAULT: u64 = 250;
 
 /// One short case in this many has a chosen fault.
 const FAULT_EVERY: usize = 6;
+
+/// The first deep case of a service that judges sections.
+const DEEP: u64 = 3;
 
 /// Whether the case with this index is short.
 pub fn is_short(index: u64) -> bool {
@@ -120,7 +124,8 @@ impl Service {
             Service::Read => Edges::of_records(self.most()).and_lists(),
             Service::DocInfo => Edges::of_docinfo(self.most()).and_lists(),
             Service::Section => Edges::of_sections(self.most()).and_lists(),
-            _ => Edges::of_sections(self.most()),
+            Service::FieldText | Service::Fill => Edges::of_sections(self.most()).and_fields(),
+            Service::Check | Service::Lister => Edges::of_sections(self.most()),
         }
     }
 
@@ -143,7 +148,10 @@ impl Service {
             LONG_FAULT if self == Service::Pack => packing::long_fault(&mut random, which),
             LONG_FAULT if !self.faults().is_empty() => self.long_fault(&mut random, which),
             LONG => self.long_case(&mut random, which),
-            _ => self.short_case(&mut random),
+            _ => match self.deep(index) {
+                Some(which) => self.deep_case(&mut random, which),
+                None => self.short_case(&mut random),
+            },
         };
         (case, shift)
     }
@@ -152,11 +160,40 @@ impl Service {
     fn long_fault(self, random: &mut Random, which: usize) -> Case {
         let faults = self.faults();
         let stream = faults::long(random, faults[which % faults.len()], self.most());
-        self.refused(random, stream)
+        self.case_of(random, stream)
     }
 
-    /// The case of a section or another stream that is refused, whatever else the call is given; its records have room.
-    fn refused(self, random: &mut Random, section: Vec<u8>) -> Case {
+    /// One case in so many is deep, where the service judges sections. Two fills judge theirs many times over.
+    fn deep_every(self) -> Option<u64> {
+        match self {
+            Service::Read | Service::Pack | Service::DocInfo => None,
+            Service::TwoFills => Some(50),
+            _ => Some(5),
+        }
+    }
+
+    /// Which of its deep cases the one with this index is, where it is one.
+    pub fn deep(self, index: u64) -> Option<usize> {
+        let every = self.deep_every().filter(|every| index % every == DEEP)?;
+        Some((index / every) as usize)
+    }
+
+    fn deep_case(self, random: &mut Random, which: usize) -> Case {
+        if self == Service::TwoFills {
+            return fills::deep_two_fills_case(random);
+        }
+        let (drafts, ids) = deep::section(random, which);
+        let section = write_stream(&drafts);
+        match self {
+            Service::FieldText => fills::field_text_of(random, section, &ids),
+            Service::Fill => fills::fill_of(random, section, &ids),
+            _ => self.case_of(random, section),
+        }
+    }
+
+    /// The case of a section or another stream; its records have room, and an id and a value that the call is given are
+    /// any, since the stream is refused.
+    fn case_of(self, random: &mut Random, section: Vec<u8>) -> Case {
         let id = random.next() as u32;
         let value = vec![65, 0];
         match self {
@@ -179,7 +216,7 @@ impl Service {
         if !self.faults().is_empty() && random.once_in(FAULT_EVERY) {
             let fault = random.pick(self.faults());
             let stream = faults::short(random, fault);
-            return self.refused(random, stream);
+            return self.case_of(random, stream);
         }
         match self {
             Service::Read => records::case(random),

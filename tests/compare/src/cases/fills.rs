@@ -1,6 +1,7 @@
 //! Field text and fill: sections with fields, values at their edges, sheets at theirs.
 
 use crate::cases::damage::damage;
+use crate::cases::nests;
 use crate::cases::paragraphs::{control, ordinary, section, units_to_bytes};
 use crate::cases::paragraphs::{Builder, Style, Text, FIELDS, MIXED};
 use crate::cases::records::{stream, write_stream, Draft};
@@ -176,6 +177,27 @@ pub fn fill_case(random: &mut Random) -> Case {
         }
     };
     let section = bytes_of(random, &drafts);
+    fill_with(random, section, filling)
+}
+
+/// Field text of one of the fields of a section, or of another id.
+pub fn field_text_of(random: &mut Random, section: Vec<u8>, ids: &[u32]) -> Case {
+    let id = id_of(random, ids);
+    Case::FieldText { section, id }
+}
+
+/// A fill of one of the fields of a section, or of another id; most of the values are good.
+pub fn fill_of(random: &mut Random, section: Vec<u8>, ids: &[u32]) -> Case {
+    let id = id_of(random, ids);
+    let value = if random.once_in(4) {
+        value(random)
+    } else {
+        good_value(random)
+    };
+    fill_with(random, section, Filling { id, value })
+}
+
+fn fill_with(random: &mut Random, section: Vec<u8>, filling: Filling) -> Case {
     let length = sheet_length(&section, &filling);
     let sheet = sheet_for(random, length);
     Case::Fill {
@@ -259,9 +281,12 @@ fn good_value(random: &mut Random) -> Vec<u8> {
 }
 
 /// A section with at least two plain fields, and two of their ids.
-fn two_fields(random: &mut Random) -> (Vec<Draft>, [u32; 2]) {
+fn two_fields(
+    random: &mut Random,
+    section: impl Fn(&mut Random) -> (Vec<Draft>, Vec<u32>),
+) -> (Vec<Draft>, [u32; 2]) {
     loop {
-        let (drafts, ids) = section(random, PLAIN);
+        let (drafts, ids) = section(random);
         if ids.len() >= 2 {
             let first = random.below(ids.len());
             let second = (first + random.from_to(1, ids.len() - 1)) % ids.len();
@@ -270,9 +295,19 @@ fn two_fields(random: &mut Random) -> (Vec<Draft>, [u32; 2]) {
     }
 }
 
-/// Two fills of different ids; the sheet is long enough for both, or for one, or for none.
 pub fn two_fills_case(random: &mut Random) -> Case {
-    let (drafts, ids) = two_fields(random);
+    let fields = two_fields(random, |random| section(random, PLAIN));
+    two_fills_of(random, fields)
+}
+
+/// Two fills in a section that goes deep.
+pub fn deep_two_fills_case(random: &mut Random) -> Case {
+    let fields = two_fields(random, nests::lawful);
+    two_fills_of(random, fields)
+}
+
+/// Two fills of different ids; the sheet is long enough for both, or for one, or for none.
+fn two_fills_of(random: &mut Random, (drafts, ids): (Vec<Draft>, [u32; 2])) -> Case {
     let fillings = ids.map(|id| Filling {
         id,
         value: good_value(random),

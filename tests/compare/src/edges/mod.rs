@@ -1,35 +1,52 @@
 //! Edges: what cases show that no number tells apart. A run must reach each edge of its service.
 
 mod counts;
+mod depths;
 mod entries;
 mod headers;
+mod nests;
 mod packs;
 mod rooms;
+mod strays;
 mod texts;
 mod trees;
 
 pub use counts::Counted;
 pub use entries::Entry;
 pub use headers::Header;
+pub use strays::{way, Stray};
 pub use texts::Text;
 
 use crate::judge::{Case, Outcome};
+use depths::Depth;
+use nests::Nest;
 use oracle::Row;
 use rooms::Rooms;
 use trees::Tree;
 
-/// An edge is reached by a case with this number of which the question is true.
+/// Blocks of so many levels are told apart.
+pub const BLOCKS: [u32; 3] = [16, 32, 64];
+
+/// An edge is reached by a case with one of these numbers of which the question is true.
 pub struct Edge<T> {
     name: String,
-    number: u8,
+    numbers: Vec<u8>,
     holds: Box<dyn Fn(&T) -> bool>,
 }
 
 impl<T> Edge<T> {
     fn new(name: impl Into<String>, number: u8, holds: impl Fn(&T) -> bool + 'static) -> Edge<T> {
+        Edge::of_any(name, &[number], holds)
+    }
+
+    fn of_any(
+        name: impl Into<String>,
+        numbers: &[u8],
+        holds: impl Fn(&T) -> bool + 'static,
+    ) -> Edge<T> {
         Edge {
             name: name.into(),
-            number,
+            numbers: numbers.to_vec(),
             holds: Box::new(holds),
         }
     }
@@ -37,7 +54,7 @@ impl<T> Edge<T> {
 
 /// Those of the edges that a case with the number reaches, where it shows what they are asked of.
 fn met<T>(edges: &[Edge<T>], number: u8, shown: impl FnOnce() -> Option<T>) -> Vec<String> {
-    let asked = edges.iter().filter(|edge| edge.number == number);
+    let asked = edges.iter().filter(|edge| edge.numbers.contains(&number));
     let asked: Vec<&Edge<T>> = asked.collect();
     if asked.is_empty() {
         return Vec::new();
@@ -59,6 +76,9 @@ pub struct Edges {
     texts: Vec<Edge<Text>>,
     entries: Vec<Edge<Entry>>,
     counts: Vec<Edge<Counted>>,
+    strays: Vec<Edge<Stray>>,
+    nests: Vec<Edge<Nest>>,
+    depths: Vec<Edge<Depth>>,
     rooms: Vec<Edge<Rooms>>,
     trees: Vec<Edge<Tree>>,
     packed: Vec<Edge<packs::Named>>,
@@ -78,6 +98,9 @@ impl Edges {
         Edges {
             texts: texts::edges(most),
             entries: entries::edges(most),
+            strays: strays::edges(),
+            nests: nests::edges(),
+            depths: depths::edges(),
             ..Edges::of_records(most)
         }
     }
@@ -98,6 +121,12 @@ impl Edges {
         }
     }
 
+    /// With those of a call that asks for a field.
+    pub fn and_fields(mut self) -> Edges {
+        self.depths.extend(depths::of_fields());
+        self
+    }
+
     /// With those of a read that writes lists.
     pub fn and_lists(self) -> Edges {
         Edges {
@@ -113,6 +142,9 @@ impl Edges {
             names(&self.texts),
             names(&self.entries),
             names(&self.counts),
+            names(&self.strays),
+            names(&self.nests),
+            names(&self.depths),
             names(&self.rooms),
             names(&self.trees),
             names(&self.packed),
@@ -130,6 +162,9 @@ impl Edges {
             met(&self.texts, number, || Text::of(stream, place)),
             met(&self.entries, number, || Entry::of(stream, place)),
             met(&self.counts, number, || Counted::of(stream, outcome)),
+            met(&self.strays, number, || Stray::of(stream, place)),
+            met(&self.nests, number, || Nest::of(stream, number, place)),
+            met(&self.depths, number, || Depth::of(case)),
             met(&self.rooms, number, || Rooms::of(case)),
             met(&self.trees, number, || Tree::of(case)),
             met(&self.packed, number, || packs::Named::of(case, place)),
