@@ -217,7 +217,7 @@ module _ {s : List ℕ} {lo cap : ℕ} {slots : List ℕ} {i at : ℕ} where
 
 -- ---- a record is noted with its parent: each slot as it then is, with the children up to the record's level still to come
 
-module _ (s : List ℕ) (lo at : ℕ) (r : Record) (ahead : aheadOf 1023 s at ≡ N.Record r) (d : Read s at r) (slots : List ℕ) (long : length slots ≡ 384) where
+module _ (s : List ℕ) (lo at : ℕ) (r : Record) (ahead : aheadOf 1023 s at ≡ N.Record r) (d : Read s at r) (slots : List ℕ) (long : length slots ≡ 96) where
   abbrev pub behind : List ℕ
   behind = notedIn lo slots (r .tag) (r .level) (at + 1)
 
@@ -239,10 +239,10 @@ module _ (s : List ℕ) (lo at : ℕ) (r : Record) (ahead : aheadOf 1023 s at �
       go (inr e) (inr t) (inr u) = subst C (noted-there slots mine (r .tag) (at + 1) e t u (r .tag - 66) _ refl refl) (g e t u)
 
   -- in the window, or outside it
-  windowed : (C : List ℕ → Type 0) → C slots → (lo ≤ r .level → r .level < lo + 64 → C there) → C behind
-  windowed C f g = go (lt-or (r .level) lo) (lt-or (r .level) (lo + 64))
+  windowed : (C : List ℕ → Type 0) → C slots → (lo ≤ r .level → r .level < lo + 16 → C there) → C behind
+  windowed C f g = go (lt-or (r .level) lo) (lt-or (r .level) (lo + 16))
     where
-      go : (r .level < lo) ⊎ (lo ≤ r .level) → (r .level < lo + 64) ⊎ (lo + 64 ≤ r .level) → C behind
+      go : (r .level < lo) ⊎ (lo ≤ r .level) → (r .level < lo + 16) ⊎ (lo + 16 ≤ r .level) → C behind
       go (inl a) b = subst C (noted-outside lo slots (r .tag) (r .level) (at + 1) (in-low lo (r .level) a)) f
       go (inr a) (inr b) = subst C (noted-outside lo slots (r .tag) (r .level) (at + 1) (in-high lo (r .level) (r .level - lo) refl a (omega arith))) f
       go (inr a) (inl b) =
@@ -269,8 +269,8 @@ module _ (s : List ℕ) (lo at : ℕ) (r : Record) (ahead : aheadOf 1023 s at �
       (λ a b. noting (λ l. headOf l (6 * i) ≡ headOf slots (6 * i)) (λ _. refl)
       (λ e t u. getD-set-other slots (mine + (r .tag - 66)) (6 * i) _ 0 (no-head i (r .level - lo) (r .tag - 66) (omega arith) (omega arith))))
 
-  pub noted-long : length behind ≡ 384
-  noted-long = windowed (λ l. length l ≡ 384) long (λ a b. noting (λ l. length l ≡ 384) (λ _. long) (λ e t u. simp length-set long))
+  pub noted-long : length behind ≡ 96
+  noted-long = windowed (λ l. length l ≡ 96) long (λ a b. noting (λ l. length l ≡ 96) (λ _. long) (λ e t u. simp length-set long))
 
   more-few : (x : ℕ) → x ≤ at → more (r .tag) (at + 1) x ≤ at + 1
   unfolding more
@@ -297,7 +297,7 @@ module _ (s : List ℕ) (lo at : ℕ) (r : Record) (ahead : aheadOf 1023 s at �
       go (inr b) = let c : r .level < n = omega (arith, h) in inr (c, gather-beyond g d (side-beyond n (r .tag) (r .level) c))
 
   -- the parent's: the record is none of its parts, or one
-  module _ (cap : ℕ) (l : r .level ≤ cap) (a : lo ≤ r .level) (b : r .level < lo + 64) where
+  module _ (cap : ℕ) (l : r .level ≤ cap) (a : lo ≤ r .level) (b : r .level < lo + 16) where
     abbrev own : ℕ
     own = r .level - lo
 
@@ -334,14 +334,14 @@ module _ (s : List ℕ) (lo at : ℕ) (r : Record) (ahead : aheadOf 1023 s at �
     parents-slot : Holds s lo cap slots own at → Holds s lo (r .level) there own (r .next .0)
     parents-slot h = noting (λ x. Holds s lo (r .level) x own (r .next .0)) (λ w. not-noted w h) (λ e t u. is-noted e t u h)
 
-  pub noted-holds : (cap : ℕ) → r .level ≤ cap → (i : ℕ) → i < 64 → Holds s lo cap slots i at → Holds s lo (r .level) behind i (r .next .0)
+  pub noted-holds : (cap : ℕ) → r .level ≤ cap → (i : ℕ) → i < 16 → Holds s lo cap slots i at → Holds s lo (r .level) behind i (r .next .0)
   noted-holds cap l i q h = go (eq-or (lo + i) (r .level)) h
     where
       go : (lo + i ≡ r .level) ⊎ (lo + i ≡ r .level → ⊥) → Holds s lo cap slots i at → Holds s lo (r .level) behind i (r .next .0)
       go (inl e) h =
           let z : r .level - lo ≡ i = omega arith in
           let a : lo ≤ r .level = omega arith in
-          let b : r .level < lo + 64 = omega arith in
+          let b : r .level < lo + 16 = omega arith in
           subst (λ (x : List ℕ). Holds s lo (r .level) x i (r .next .0)) (noted-inside lo slots (r .tag) (r .level) (at + 1) (r .level - lo) refl (in-window lo (r .level) (r .level - lo) refl a (omega arith)))
           (subst (λ (j : ℕ). Holds s lo (r .level) there j (r .next .0)) z (parents-slot cap l a b (subst (λ (j : ℕ). Holds s lo cap slots j at) (sym z) h)))
       go (inr e) (inl z) = inl (noted-heads i ∙ z)
@@ -447,7 +447,7 @@ module _ (slots : List ℕ) (b x : ℕ) (room : b + 6 ≤ length slots) where
 
 -- ---- a record takes its own slot, where the parents' are as they are
 
-module _ (s : List ℕ) (lo at : ℕ) (r : Record) (d : Read s at r) (slots : List ℕ) (long : length slots ≡ 384) where
+module _ (s : List ℕ) (lo at : ℕ) (r : Record) (d : Read s at r) (slots : List ℕ) (long : length slots ≡ 96) where
   abbrev pub after : List ℕ
   after = takenIn lo slots (r .tag) (r .level + 1) (at + 1)
 
@@ -458,19 +458,19 @@ module _ (s : List ℕ) (lo at : ℕ) (r : Record) (d : Read s at r) (slots : Li
   abbrev taken-as : ℕ
   taken-as = cond (eqb (r .tag) 66) (at + 1) 0
 
-  taking : (C : List ℕ → Type 0) → ((r .level + 1 < lo) ⊎ (lo + 64 ≤ r .level + 1) → C slots)
-      → (lo ≤ r .level + 1 → r .level + 1 < lo + 64 → C (fresh slots (6 * own-slot) taken-as)) → C after
+  taking : (C : List ℕ → Type 0) → ((r .level + 1 < lo) ⊎ (lo + 16 ≤ r .level + 1) → C slots)
+      → (lo ≤ r .level + 1 → r .level + 1 < lo + 16 → C (fresh slots (6 * own-slot) taken-as)) → C after
   unfolding takenIn
-  taking C f g = go (lt-or (r .level + 1) lo) (lt-or (r .level + 1) (lo + 64))
+  taking C f g = go (lt-or (r .level + 1) lo) (lt-or (r .level + 1) (lo + 16))
     where
-      go : (r .level + 1 < lo) ⊎ (lo ≤ r .level + 1) → (r .level + 1 < lo + 64) ⊎ (lo + 64 ≤ r .level + 1)
+      go : (r .level + 1 < lo) ⊎ (lo ≤ r .level + 1) → (r .level + 1 < lo + 16) ⊎ (lo + 16 ≤ r .level + 1)
           → C (cond (inWindow lo (r .level + 1)) (fresh slots (6 * own-slot) taken-as) slots)
       go (inl a) b = rw (in-low lo (r .level + 1) a) (f (inl a))
       go (inr a) (inr b) = rw (in-high lo (r .level + 1) own-slot refl a (omega arith)) (f (inr b))
       go (inr a) (inl b) = rw (in-window lo (r .level + 1) own-slot refl a (omega arith)) (g a b)
 
-  pub taken-long : length after ≡ 384
-  taken-long = taking (λ l. length l ≡ 384) (λ _. long) (λ a b. fresh-long slots (6 * own-slot) taken-as (omega (arith, long)) ∙ long)
+  pub taken-long : length after ≡ 96
+  taken-long = taking (λ l. length l ≡ 96) (λ _. long) (λ a b. fresh-long slots (6 * own-slot) taken-as (omega (arith, long)) ∙ long)
 
   as-few : taken-as ≤ at + 1
   as-few = go (eqb (r .tag) 66)
@@ -487,7 +487,7 @@ module _ (s : List ℕ) (lo at : ℕ) (r : Record) (d : Read s at r) (slots : Li
   taken-same i h = taking (λ l. Same slots l (6 * i)) (λ _ k q. refl) (λ a b. fresh-apart slots own-slot taken-as i (λ z. h (omega arith)))
 
   -- its own
-  module _ (a : lo ≤ r .level + 1) (b : r .level + 1 < lo + 64) where
+  module _ (a : lo ≤ r .level + 1) (b : r .level + 1 < lo + 16) where
     abbrev then : List ℕ
     then = fresh slots (6 * own-slot) taken-as
 
@@ -520,7 +520,7 @@ module _ (s : List ℕ) (lo at : ℕ) (r : Record) (d : Read s at r) (slots : Li
   one-more-level n from p q h (inl (a, g)) = inl (omega arith, g)
   one-more-level n from p q h (inr (a, g)) = inr (omega (arith, h), g)
 
-  pub taken-holds : (i : ℕ) → i < 64 → Holds s lo (r .level) slots i (r .next .0) → Holds s lo (r .level + 1) after i (r .next .0)
+  pub taken-holds : (i : ℕ) → i < 16 → Holds s lo (r .level) slots i (r .next .0) → Holds s lo (r .level + 1) after i (r .next .0)
   unfolding takenIn
   taken-holds i q h = go (eq-or (lo + i) (r .level + 1)) h
     where
@@ -528,7 +528,7 @@ module _ (s : List ℕ) (lo at : ℕ) (r : Record) (d : Read s at r) (slots : Li
       go (inl e) h =
           let z : own-slot ≡ i = omega arith in
           let a : lo ≤ r .level + 1 = omega arith in
-          let b : r .level + 1 < lo + 64 = omega arith in
+          let b : r .level + 1 < lo + 16 = omega arith in
           rw (in-window lo (r .level + 1) own-slot refl a (omega arith))
           (subst (λ (j : ℕ). Holds s lo (r .level + 1) (fresh slots (6 * own-slot) taken-as) j (r .next .0)) z (own-taken a b (eq-or (r .tag) 66)))
       go (inr e) (inl z) = inl (head-same slots after (6 * i) (taken-same i e) ∙ z)
@@ -601,33 +601,33 @@ module _ (s : List ℕ) (at : ℕ) (r : Record) (d : Read s at r) (earlier : Lis
       go (inr t) = rw (ne-eqb (r .tag) 66 t, ne-eqb (d .rec .tag) 66 (λ q. t (d .tag-is ∙ q)))
 
   -- one of the window, judged or held, in place of one to come
-  module _ (lo : ℕ) (slots : List ℕ) (long : length slots ≡ 384) where
+  module _ (lo : ℕ) (slots : List ℕ) (long : length slots ≡ 96) where
     abbrev own-new : List ℕ
     own-new = takenIn lo slots (r .tag) (r .level + 1) (at + 1)
 
     abbrev next-one : ℕ
-    next-one = cond (between lo (lo + 64) (below (d .rec)) && faulty earlier (d .rec) left) at (length s)
+    next-one = cond (between lo (lo + 16) (below (d .rec)) && faulty earlier (d .rec) left) at (length s)
 
-    outside : inWindow lo (r .level + 1) ≡ false → min (ownFault s lo slots (r .level + 1)) (slotsFault s own-new 64) ≡ min next-one (slotsFault s slots 64)
+    outside : inWindow lo (r .level + 1) ≡ false → min (ownFault s lo slots (r .level + 1)) (slotsFault s own-new 16) ≡ min next-one (slotsFault s slots 16)
     unfolding ownFault takenIn
     outside e = let w : inWindow lo (d .rec .level + 1) ≡ false = ap (λ (n : ℕ). inWindow lo (n + 1)) (sym (d .level-is)) ∙ e in rw (e, w)
 
-    inside-by : (lo ≤ r .level + 1) → r .level + 1 < lo + 64 → inWindow lo (r .level + 1) ≡ true
-        → min (ownFault s lo slots (r .level + 1)) (slotsFault s own-new 64) ≡ min next-one (slotsFault s slots 64)
+    inside-by : (lo ≤ r .level + 1) → r .level + 1 < lo + 16 → inWindow lo (r .level + 1) ≡ true
+        → min (ownFault s lo slots (r .level + 1)) (slotsFault s own-new 16) ≡ min next-one (slotsFault s slots 16)
     unfolding ownFault takenIn
     inside-by a b e =
         let w : inWindow lo (d .rec .level + 1) ≡ true = ap (λ (n : ℕ). inWindow lo (n + 1)) (sym (d .level-is)) ∙ e in
         let j = r .level + 1 - lo in
         let x = cond (eqb (r .tag) 66) (at + 1) 0 in
-        let k = slots-swap s slots (fresh slots (6 * j) x) j 64 (omega arith) (λ i h. head-same slots (fresh slots (6 * j) x) (6 * i) (fresh-apart slots j x i h)) in
+        let k = slots-swap s slots (fresh slots (6 * j) x) j 16 (omega arith) (λ i h. head-same slots (fresh slots (6 * j) x) (6 * i) (fresh-apart slots j x i h)) in
         let q : headOf (fresh slots (6 * j) x) (6 * j) ≡ x = fresh-head slots (6 * j) x (omega (arith, long)) in
-        rw (e, w) (k ∙ ap (λ (y : ℕ). min (slotFault s y) (slotsFault s slots 64)) q ∙ ap (λ (y : ℕ). min y (slotsFault s slots 64)) new-fault)
+        rw (e, w) (k ∙ ap (λ (y : ℕ). min (slotFault s y) (slotsFault s slots 16)) q ∙ ap (λ (y : ℕ). min y (slotsFault s slots 16)) new-fault)
 
-    pub exchanged : min (ownFault s lo slots (r .level + 1)) (slotsFault s own-new 64) ≡ min next-one (slotsFault s slots 64)
-    exchanged = go (lt-or (r .level + 1) lo) (lt-or (r .level + 1) (lo + 64))
+    pub exchanged : min (ownFault s lo slots (r .level + 1)) (slotsFault s own-new 16) ≡ min next-one (slotsFault s slots 16)
+    exchanged = go (lt-or (r .level + 1) lo) (lt-or (r .level + 1) (lo + 16))
       where
-        go : (r .level + 1 < lo) ⊎ (lo ≤ r .level + 1) → (r .level + 1 < lo + 64) ⊎ (lo + 64 ≤ r .level + 1)
-            → min (ownFault s lo slots (r .level + 1)) (slotsFault s own-new 64) ≡ min next-one (slotsFault s slots 64)
+        go : (r .level + 1 < lo) ⊎ (lo ≤ r .level + 1) → (r .level + 1 < lo + 16) ⊎ (lo + 16 ≤ r .level + 1)
+            → min (ownFault s lo slots (r .level + 1)) (slotsFault s own-new 16) ≡ min next-one (slotsFault s slots 16)
         go (inl a) b = outside (in-low lo (r .level + 1) a)
         go (inr a) (inr b) = outside (in-high lo (r .level + 1) (r .level + 1 - lo) refl a (omega arith))
         go (inr a) (inl b) = inside-by a b (in-window lo (r .level + 1) (r .level + 1 - lo) refl a (omega arith))
@@ -637,14 +637,14 @@ module _ (s : List ℕ) (at : ℕ) (r : Record) (d : Read s at r) (earlier : Lis
 pub record Gathers (s : List ℕ) (lo : ℕ) (slots : List ℕ) (at first deepest : ℕ) : Type 0 where
   pub small : length s ≤ limit
   pub inside : at ≤ length s
-  pub long : length slots ≡ 384
+  pub long : length slots ≡ 96
   pub few : (i : ℕ) → getD slots i 0 ≤ at
   pub cap : ℕ
   pub earlier : List Rec
   pub lawful : Lawful cap (recordsIn (drop at s))
-  pub slot : (i : ℕ) → i < 64 → Holds s lo cap slots i at
-  pub rest : faultIn lo (lo + 64) s
-      ≡ min first (min (slotsFault s slots 64) (firstIn below faulty lo (lo + 64) (length s) at earlier (recordsIn (drop at s))))
+  pub slot : (i : ℕ) → i < 16 → Holds s lo cap slots i at
+  pub rest : faultIn lo (lo + 16) s
+      ≡ min first (min (slotsFault s slots 16) (firstIn below faulty lo (lo + 16) (length s) at earlier (recordsIn (drop at s))))
   pub deep : deepestFrom 0 (recordsIn s) ≡ deepestFrom deepest (recordsIn (drop at s))
 
 pub zeros : (n i : ℕ) → getD (replicate {A = ℕ} n 0) i 0 ≡ 0
@@ -652,7 +652,7 @@ zeros zero i = refl
 zeros (suc n) zero = refl
 zeros (suc n) (suc i) = zeros n i
 
-pub gathers-start : (s : List ℕ) (lo : ℕ) (slots : List ℕ) → Bytes s → length s ≤ limit → readAll s .stop ≡ none → length slots ≡ 384
+pub gathers-start : (s : List ℕ) (lo : ℕ) (slots : List ℕ) → Bytes s → length s ≤ limit → readAll s .stop ≡ none → length slots ≡ 96
     → ((i : ℕ) → getD slots i 0 ≡ 0) → Gathers s lo slots 0 (length s) 0
 unfolding faultIn readAll
 gathers-start s lo slots bs h e n z =
@@ -665,7 +665,7 @@ gathers-start s lo slots bs h e n z =
       earlier = [];
       lawful = subst (Lawful 0) (sym (in-read s bs e)) (encode-read 0 s bs e .lawful);
       slot = λ i q. inl (z (6 * i));
-      rest = let b = first-below below faulty lo (lo + 64) (length s) 0 [] (recordsIn s) in omega (arith, slots-empty s slots 64 z, b);
+      rest = let b = first-below below faulty lo (lo + 16) (length s) 0 [] (recordsIn s) in omega (arith, slots-empty s slots 16 z, b);
       deep = refl;
     }
 
@@ -680,27 +680,27 @@ module _ {s : List ℕ} {lo : ℕ} {slots : List ℕ} {at first deepest : ℕ} {
   abbrev pub noted-slots : List ℕ
   noted-slots = notedIn lo slots (r .tag) (r .level) (at + 1)
 
-  noted-slot : (i : ℕ) → i < 64 → Holds s lo (r .level) noted-slots i (r .next .0)
+  noted-slot : (i : ℕ) → i < 16 → Holds s lo (r .level) noted-slots i (r .next .0)
   noted-slot i q = noted-holds s lo at r ahead d slots (k .long) (k .cap) level-low i q (k .slot i q)
 
   abbrev pub taken-slots : List ℕ
   taken-slots = takenIn lo noted-slots (r .tag) (r .level + 1) (at + 1)
 
-  noted-room : length noted-slots ≡ 384
+  noted-room : length noted-slots ≡ 96
   noted-room = noted-long s lo at r ahead d slots (k .long)
 
   -- the paragraph in the record's own slot has ended
-  pub gathers-ended : lo ≤ r .level + 1 → r .level + 1 < lo + 64 → Ended s noted-slots (6 * (r .level + 1 - lo))
+  pub gathers-ended : lo ≤ r .level + 1 → r .level + 1 < lo + 16 → Ended s noted-slots (6 * (r .level + 1 - lo))
   gathers-ended a b = holds-ended {cap = r .level} {at = r .next .0} (omega arith) (noted-slot (r .level + 1 - lo) (omega arith))
 
   abbrev still : ℕ
-  still = firstIn below faulty lo (lo + 64) (length s) (r .next .0) (d .rec ∷ k .earlier) (recordsIn (drop (r .next .0) s))
+  still = firstIn below faulty lo (lo + 16) (length s) (r .next .0) (d .rec ∷ k .earlier) (recordsIn (drop (r .next .0) s))
 
-  to-come : firstIn below faulty lo (lo + 64) (length s) at (k .earlier) (recordsIn (drop at s)) ≡ min (next-one s at r d (k .earlier) lo noted-slots noted-room) still
+  to-come : firstIn below faulty lo (lo + 16) (length s) at (k .earlier) (recordsIn (drop at s)) ≡ min (next-one s at r d (k .earlier) lo noted-slots noted-room) still
   to-come =
-      ap (firstIn below faulty lo (lo + 64) (length s) at (k .earlier)) (d .records)
-      ∙ first-next below faulty lo (lo + 64) (length s) at (k .earlier) (d .rec) (recordsIn (drop (r .next .0) s))
-      ∙ ap (λ (n : ℕ). min (next-one s at r d (k .earlier) lo noted-slots noted-room) (firstIn below faulty lo (lo + 64) (length s) n (d .rec ∷ k .earlier) (recordsIn (drop (r .next .0) s)))) (sym (d .next-is))
+      ap (firstIn below faulty lo (lo + 16) (length s) at (k .earlier)) (d .records)
+      ∙ first-next below faulty lo (lo + 16) (length s) at (k .earlier) (d .rec) (recordsIn (drop (r .next .0) s))
+      ∙ ap (λ (n : ℕ). min (next-one s at r d (k .earlier) lo noted-slots noted-room) (firstIn below faulty lo (lo + 16) (length s) n (d .rec ∷ k .earlier) (recordsIn (drop (r .next .0) s)))) (sym (d .next-is))
 
   pub gathers-next : (own first′ deepest′ : ℕ) → own ≡ ownFault s lo noted-slots (r .level + 1) → first′ ≡ min first own → deepest′ ≡ max deepest (r .level)
       → Gathers s lo taken-slots (r .next .0) first′ deepest′
@@ -716,10 +716,10 @@ module _ {s : List ℕ} {lo : ℕ} {slots : List ℕ} {at first deepest : ℕ} {
         lawful = subst (λ (n : ℕ). Lawful (n + 1) (recordsIn (drop (r .next .0) s))) (sym (d .level-is)) (obeyed .1);
         slot = λ i q. taken-holds s lo at r d noted-slots noted-room i q (noted-slot i q);
         rest =
-            let a : slotsFault s noted-slots 64 ≡ slotsFault s slots 64 = slots-same s slots noted-slots 64 (λ i q. noted-heads s lo at r ahead d slots (k .long) i) in
+            let a : slotsFault s noted-slots 16 ≡ slotsFault s slots 16 = slots-same s slots noted-slots 16 (λ i q. noted-heads s lo at r ahead d slots (k .long) i) in
             let b = exchanged s at r d (k .earlier) lo noted-slots noted-room in
-            exchange first (slotsFault s slots 64) (next-one s at r d (k .earlier) lo noted-slots noted-room) still own (slotsFault s taken-slots 64) first′
-            (k .rest ∙ ap (λ (n : ℕ). min first (min (slotsFault s slots 64) n)) to-come) (ap (λ (n : ℕ). min n (slotsFault s taken-slots 64)) o ∙ b ∙ ap (min (next-one s at r d (k .earlier) lo noted-slots noted-room)) a) f;
+            exchange first (slotsFault s slots 16) (next-one s at r d (k .earlier) lo noted-slots noted-room) still own (slotsFault s taken-slots 16) first′
+            (k .rest ∙ ap (λ (n : ℕ). min first (min (slotsFault s slots 16) n)) to-come) (ap (λ (n : ℕ). min n (slotsFault s taken-slots 16)) o ∙ b ∙ ap (min (next-one s at r d (k .earlier) lo noted-slots noted-room)) a) f;
         deep =
             k .deep ∙ ap (deepestFrom deepest) (d .records)
             ∙ ap (λ (m : ℕ). deepestFrom m (recordsIn (drop (r .next .0) s))) (ap (max deepest) (sym (d .level-is)) ∙ sym e);
@@ -727,7 +727,7 @@ module _ {s : List ℕ} {lo : ℕ} {slots : List ℕ} {at first deepest : ℕ} {
 
   -- the same by the slots as the calls left them
   pub gathers-taken : (one : List ℕ) → one ≡ noted-slots
-      → (length one ≡ 384) × (lo ≤ r .level + 1 → r .level + 1 < lo + 64 → Ended s one (6 * (r .level + 1 - lo)))
+      → (length one ≡ 96) × (lo ≤ r .level + 1 → r .level + 1 < lo + 16 → Ended s one (6 * (r .level + 1 - lo)))
   gathers-taken one e = rw e (noted-room, gathers-ended)
 
   pub gathers-step : (one two : List ℕ) (own first′ deepest′ : ℕ) → one ≡ noted-slots → own ≡ ownFault s lo one (r .level + 1)
@@ -745,14 +745,14 @@ pub gathers-few : {s : List ℕ} {lo : ℕ} {slots : List ℕ} {at first deepest
 gathers-few k i = omega (arith, k .few i, k .inside, k .small)
 
 module _ {s : List ℕ} {lo : ℕ} {slots : List ℕ} {at first deepest : ℕ} (k : Gathers s lo slots at first deepest) (e : recordsIn (drop at s) ≡ []) where
-  pub gathers-last : (i : ℕ) → i < 64 → Ended s slots (6 * i)
+  pub gathers-last : (i : ℕ) → i < 16 → Ended s slots (6 * i)
   gathers-last i q = holds-last e (k .slot i q)
 
-  pub gathers-first : (x : ℕ) → x ≡ slotsFault s slots 64 → min first x ≡ faultIn lo (lo + 64) s
+  pub gathers-first : (x : ℕ) → x ≡ slotsFault s slots 16 → min first x ≡ faultIn lo (lo + 16) s
   unfolding firstIn
   gathers-first x q =
-      let z : firstIn below faulty lo (lo + 64) (length s) at (k .earlier) (recordsIn (drop at s)) ≡ length s = ap (firstIn below faulty lo (lo + 64) (length s) at (k .earlier)) e in
-      omega (arith, k .rest, z, q, slots-below s slots 64)
+      let z : firstIn below faulty lo (lo + 16) (length s) at (k .earlier) (recordsIn (drop at s)) ≡ length s = ap (firstIn below faulty lo (lo + 16) (length s) at (k .earlier)) e in
+      omega (arith, k .rest, z, q, slots-below s slots 16)
 
   pub gathers-deepest : deepest ≡ deepestFrom 0 (recordsIn s)
   unfolding deepestFrom

@@ -56,9 +56,9 @@ beyond-none test m lo hi e at earlier (r ∷ rs) h =
 -- ---- one window behind the other
 
 module _ (s : List ℕ) where
-  pub windows-next : (lo first x : ℕ) → first ≡ faultIn 0 lo s → x ≡ faultIn lo (lo + 64) s → min first x ≡ faultIn 0 (lo + 64) s
+  pub windows-next : (lo first x : ℕ) → first ≡ faultIn 0 lo s → x ≡ faultIn lo (lo + 16) s → min first x ≡ faultIn 0 (lo + 16) s
   unfolding faultIn
-  windows-next lo first x e q = rw (e, q) (first-join below faulty 0 lo (lo + 64) (length s) 0 [] (recordsIn s) (omega arith) (omega arith))
+  windows-next lo first x e q = rw (e, q) (first-join below faulty 0 lo (lo + 16) (length s) 0 [] (recordsIn s) (omega arith) (omega arith))
 
   pub windows-all : (lo first : ℕ) → first ≡ faultIn 0 lo s → deepestFrom 0 (recordsIn s) < 1024 → deepestFrom 0 (recordsIn s) + 1 < lo → first ≡ faultIn 0 1025 s
   unfolding faultIn

@@ -118,8 +118,8 @@ pub slots-next : (s slots : List ℕ) (i first x : ℕ) → first ≡ slotsFault
 unfolding slotsFault
 slots-next s slots i first x e q = let z : i + 1 ≡ suc i = omega arith in rw (e, q, z)
 
-pub slots-all : (s slots : List ℕ) (i first : ℕ) → first ≡ slotsFault s slots i → i ≤ 64 → (i < 64 → ⊥) → first ≡ slotsFault s slots 64
-slots-all s slots i first e h k = let z : i ≡ 64 = omega arith in e ∙ ap (slotsFault s slots) z
+pub slots-all : (s slots : List ℕ) (i first : ℕ) → first ≡ slotsFault s slots i → i ≤ 16 → (i < 16 → ⊥) → first ≡ slotsFault s slots 16
+slots-all s slots i first e h k = let z : i ≡ 16 = omega arith in e ∙ ap (slotsFault s slots) z
 
 -- ---- in a window, whose slot for level n has the index m
 
@@ -128,11 +128,11 @@ module _ (lo n : ℕ) where
   in-low h = rw (lt-leb lo n h)
 
   module _ (m : ℕ) (is : m ≡ n - lo) (h : lo ≤ n) where
-    pub in-high : 64 ≤ m → inWindow lo n ≡ false
-    in-high q = rw (le-leb lo n h, le-ltb n (lo + 64) (omega arith))
+    pub in-high : 16 ≤ m → inWindow lo n ≡ false
+    in-high q = rw (le-leb lo n h, le-ltb n (lo + 16) (omega arith))
 
-    pub in-window : m < 64 → inWindow lo n ≡ true
-    in-window q = rw (le-leb lo n h, lt-ltb n (lo + 64) (omega arith))
+    pub in-window : m < 16 → inWindow lo n ≡ true
+    in-window q = rw (le-leb lo n h, lt-ltb n (lo + 16) (omega arith))
 
 module _ (lo : ℕ) (slots : List ℕ) (tag n place : ℕ) where
   pub noted-outside : inWindow lo n ≡ false → slots ≡ notedIn lo slots tag n place
@@ -164,5 +164,5 @@ module _ (lo : ℕ) (slots : List ℕ) (tag n place : ℕ) where
     unfolding ownFault
     own-inside s = rw (e, is)
 
-    pub own-ended : (s : List ℕ) → (lo ≤ n → n < lo + 64 → Ended s slots (6 * (n - lo))) → lo ≤ n → m < 64 → Ended s slots (6 * m)
+    pub own-ended : (s : List ℕ) → (lo ≤ n → n < lo + 16 → Ended s slots (6 * (n - lo))) → lo ≤ n → m < 16 → Ended s slots (6 * m)
     own-ended s k h q = subst (λ (i : ℕ). Ended s slots (6 * i)) (sym is) (k h (omega arith))

@@ -90,9 +90,9 @@ noted slots b tag place =
 unfoldable pub fresh : List ℕ → ℕ → ℕ → List ℕ
 fresh slots b x = set (set (set (set (set (set slots b x) (b + 1) 0) (b + 2) 0) (b + 3) 0) (b + 4) 0) (b + 5) 0
 
--- in the window of 64 levels from lo on
+-- in the window of 16 levels from lo on
 abbrev pub inWindow : ℕ → ℕ → Bool
-inWindow lo n = leb lo n && ltb n (lo + 64)
+inWindow lo n = leb lo n && ltb n (lo + 16)
 
 -- a record at a level with its parent's slot, and then with its own, that of children at level `below`
 unfoldable pub notedIn : ℕ → List ℕ → ℕ → ℕ → ℕ → List ℕ

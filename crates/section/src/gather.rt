@@ -1,4 +1,4 @@
-// The paragraphs of a window of 64 levels in one pass: where the parts of each stand is noted until it ends, and then it is judged. A section
+// The paragraphs of a window of 16 levels in one pass: where the parts of each stand is noted until it ends, and then it is judged. A section
 // of ten levels takes one pass, however its paragraphs are nested; one of 1,000 takes sixteen.
 use crate::parents::deeper;
 use judgement::head_fault;
@@ -121,7 +121,7 @@ fn renew(slots: &mut [u32], b: usize, x: u32)
 
 // A record at a level with its parent's paragraph, where the window has that.
 fn note_child(slots: &mut [u32], lo: u32, tag: u32, level: u32, place: u32)
-    requires { ⌜ length (now slots) ≡ 384 ⌝ }
+    requires { ⌜ length (now slots) ≡ 96 ⌝ }
     requires { ⌜ ((i : ℕ) → getD (now slots) i 0 < 4294967295) ⌝ }
     ensures { λ _. ⌜ now (slots .exit) ≡ notedIn lo (now (slots .entry)) tag level place ⌝ }
 {
@@ -129,7 +129,7 @@ fn note_child(slots: &mut [u32], lo: u32, tag: u32, level: u32, place: u32)
         return;
     }
     let i = wide(level - lo);
-    if 64 <= i {
+    if 16 <= i {
         return;
     }
     note(slots, 6 * i, tag, place);
@@ -137,15 +137,15 @@ fn note_child(slots: &mut [u32], lo: u32, tag: u32, level: u32, place: u32)
 
 // A record takes its own slot, where the window has one for it: the paragraph that stood there has ended, and is judged.
 fn take_own(s: &[u8], slots: &mut [u32], lo: u32, tag: u32, below: u32, place: u32) -> usize
-    requires { ⌜ length (now slots) ≡ 384 ⌝ }
-    requires { ⌜ (lo ≤ below → below < lo + 64 → Ended (now s) (now slots) (6 * (below - lo))) ⌝ }
+    requires { ⌜ length (now slots) ≡ 96 ⌝ }
+    requires { ⌜ (lo ≤ below → below < lo + 16 → Ended (now s) (now slots) (6 * (below - lo))) ⌝ }
     ensures { λ r. ⌜ (r ≡ ownFault (now (s .entry)) lo (now (slots .entry)) below) × (now (slots .exit) ≡ takenIn lo (now (slots .entry)) tag below place) ⌝ }
 {
     if below < lo {
         return s.len();
     }
     let i = wide(below - lo);
-    if 64 <= i {
+    if 16 <= i {
         return s.len();
     }
     let fault = judge_slot(s, slots, 6 * i);
@@ -159,13 +159,13 @@ fn take_own(s: &[u8], slots: &mut [u32], lo: u32, tag: u32, below: u32, place: u
 
 // The paragraphs that are in their slots where the stream ends.
 fn judge_slots(s: &[u8], slots: &[u32]) -> usize
-    requires { ⌜ length (now slots) ≡ 384 ⌝ }
-    requires { ⌜ ((i : ℕ) → i < 64 → Ended (now s) (now slots) (6 * i)) ⌝ }
-    ensures { λ r. ⌜ r ≡ slotsFault (now (s .entry)) (now (slots .entry)) 64 ⌝ }
+    requires { ⌜ length (now slots) ≡ 96 ⌝ }
+    requires { ⌜ ((i : ℕ) → i < 16 → Ended (now s) (now slots) (6 * i)) ⌝ }
+    ensures { λ r. ⌜ r ≡ slotsFault (now (s .entry)) (now (slots .entry)) 16 ⌝ }
 {
     let mut first = s.len();
     let mut i: usize = 0;
-    while i < 64 {
+    while i < 16 {
         first = lesser(first, judge_slot(s, slots, 6 * i));
         i = i + 1;
     }
@@ -181,9 +181,9 @@ pub struct Gathered {
 
 fn gather(s: &[u8], lo: u32) -> Gathered
     requires { ⌜ (length (now s) ≤ limit) × (readAll (now s) .stop ≡ none) ⌝ }
-    ensures { λ r. ⌜ (r .first ≡ faultIn lo (lo + 64) (now (s .entry))) × (r .deepest ≡ deepestFrom 0 (recordsIn (now (s .entry)))) ⌝ }
+    ensures { λ r. ⌜ (r .first ≡ faultIn lo (lo + 16) (now (s .entry))) × (r .deepest ≡ deepestFrom 0 (recordsIn (now (s .entry)))) ⌝ }
 {
-    let mut slots = [0u32; 384];
+    let mut slots = [0u32; 96];
     let mut at = Offset(0);
     let mut first = s.len();
     let mut deepest: u32 = 0;
@@ -211,11 +211,11 @@ pub fn first_at_fault(s: &[u8]) -> usize
 {
     let g = gather(s, 0);
     let mut first = g.first;
-    let mut lo: u32 = 64;
+    let mut lo: u32 = 16;
     while lo <= g.deepest + 1 {
         let h = gather(s, lo);
         first = lesser(first, h.first);
-        lo = lo + 64;
+        lo = lo + 16;
     }
     first
 }

@@ -14,7 +14,7 @@ use Rattle.numbers.proofs.lesser.Reads as lesser-reads
 use Rattle.section.proofs.gather.gather.Reads as gather-reads
 
 abbrev Inv-loop : tie.InvT-loop
-Inv-loop s g first₀ lo₀ first lo = (lo ≤ 1088) × (first ≡ faultIn 0 lo s)
+Inv-loop s g first₀ lo₀ first lo = (lo ≤ 1040) × (first ≡ faultIn 0 lo s)
 
 abbrev μ-loop : tie.MeasureT-loop
 μ-loop s g first₀ lo₀ first lo = 2048 - lo

@@ -27,7 +27,7 @@ abbrev μ-loop : tie.MeasureT-loop
 μ-loop s lo slots₀ at₀ first₀ deepest₀ slots at first deepest = length s - at .0
 
 loop-holds : tie.Need-loop-holds Inv-loop μ-loop
-loop-holds c = gathers-start _ _ _ (slice-bytes (c .before .args .s .now) (c .shared-slice-known .given)) (c .before .pre .0) (c .before .pre .1) (length-replicate {A = ℕ} 384 0) (zeros 384)
+loop-holds c = gathers-start _ _ _ (slice-bytes (c .before .args .s .now) (c .shared-slice-known .given)) (c .before .pre .0) (c .before .pre .1) (length-replicate {A = ℕ} 96 0) (zeros 96)
 
 record-at-requires : tie.Need-record-at-requires Inv-loop μ-loop
 record-at-requires c κs = search needs

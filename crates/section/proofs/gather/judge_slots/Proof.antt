@@ -14,10 +14,10 @@ use Rattle.numbers.proofs.lesser.Reads as lesser-reads
 use Rattle.section.proofs.gather.judge_slot.Reads as judge-slot-reads
 
 abbrev Inv-loop : tie.InvT-loop
-Inv-loop s slots first₀ i₀ first i = (i ≤ 64) × (first ≡ slotsFault s slots i)
+Inv-loop s slots first₀ i₀ first i = (i ≤ 16) × (first ≡ slotsFault s slots i)
 
 abbrev μ-loop : tie.MeasureT-loop
-μ-loop s slots first₀ i₀ first i = 64 - i
+μ-loop s slots first₀ i₀ first i = 16 - i
 
 loop-holds : tie.Need-loop-holds Inv-loop μ-loop
 loop-holds c = (omega arith, slots-end _ _)
