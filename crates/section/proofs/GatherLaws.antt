@@ -652,10 +652,10 @@ zeros zero i = refl
 zeros (suc n) zero = refl
 zeros (suc n) (suc i) = zeros n i
 
-pub gathers-start : (s : List ℕ) (lo : ℕ) (slots : List ℕ) → Bytes s → length s ≤ limit → readAll s .stop ≡ none → length slots ≡ 96
-    → ((i : ℕ) → getD slots i 0 ≡ 0) → Gathers s lo slots 0 (length s) 0
+pub gathers-start : (s : List ℕ) (lo : ℕ) (slots : List ℕ) (first : ℕ) → first ≡ length s → Bytes s → length s ≤ limit → readAll s .stop ≡ none → length slots ≡ 96
+    → ((i : ℕ) → getD slots i 0 ≡ 0) → Gathers s lo slots 0 first 0
 unfolding faultIn readAll
-gathers-start s lo slots bs h e n z =
+gathers-start s lo slots first f bs h e n z =
     record {
       small = h;
       inside = omega arith;
@@ -665,7 +665,7 @@ gathers-start s lo slots bs h e n z =
       earlier = [];
       lawful = subst (Lawful 0) (sym (in-read s bs e)) (encode-read 0 s bs e .lawful);
       slot = λ i q. inl (z (6 * i));
-      rest = let b = first-below below faulty lo (lo + 16) (length s) 0 [] (recordsIn s) in omega (arith, slots-empty s slots 16 z, b);
+      rest = let b = first-below below faulty lo (lo + 16) (length s) 0 [] (recordsIn s) in omega (arith, slots-empty s slots 16 z, b, f);
       deep = refl;
     }
 

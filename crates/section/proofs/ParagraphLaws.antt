@@ -29,6 +29,7 @@ use Rattle.section.specs.Parents.{header}
 use Rattle.section.specs.Section.{findingOf, paragraphsFault}
 use Rattle.section.specs.Windows.{firstIn}
 use Rattle.section.specs.Slots.{below, faulty, faultIn, deepestFrom}
+use Rattle.section.proofs.SlotLaws.{end-lawful}
 use Rattle.section.proofs.FirstLaws.{between-in, between-low, first-miss, first-hit, first-join, first-below}
 
 -- ---- how deep the records go
@@ -134,29 +135,23 @@ module _ (s : List ℕ) (bs : Bytes s) where
     unfolding faultIn
     all-told = rw is (told 0 0 [] (recordsIn s) refl (read-lawful s bs e))
 
-    pub paragraphs-lawful : (n : ℕ) → length s ≤ x → A.Accepted n ≡ settled n (paragraphsFault 0 (recordsIn s))
-    paragraphs-lawful n h = go all-told
-      where
-        go : Told s x (paragraphsFault 0 (recordsIn s)) → A.Accepted n ≡ settled n (paragraphsFault 0 (recordsIn s))
-        go (inl (a, b)) = rw b
-        go (inr k) = absurd (omega (arith, k .inside))
+    module _ (y : Finding) (f : y ≡ firstFault (recordsIn (drop x s))) where
+      pub paragraphs-lawful : (n : ℕ) → y ≡ G.Lawful → A.Accepted n ≡ settled n (paragraphsFault 0 (recordsIn s))
+      paragraphs-lawful n q = go all-told
+        where
+          go : Told s x (paragraphsFault 0 (recordsIn s)) → A.Accepted n ≡ settled n (paragraphsFault 0 (recordsIn s))
+          go (inl (a, b)) = rw b
+          go (inr k) = absurd (let same : G.Lawful ≡ G.Breach (k .fault) (k .which) = sym q ∙ f ∙ k .finding in let z : _≡_ {A = ℕ} 0 1 = cc in omega arith)
 
-    module _ (h : x < length s) (y : Finding) (f : y ≡ firstFault (recordsIn (drop x s))) where
       pub paragraphs-breach : (n : ℕ) (g : Fault) (w : Which) (p : Offset) → y ≡ G.Breach g w → p ≡ offset (placeOf x (recordsIn (drop x s)) w)
           → refusedAt g (p .0) ≡ settled n (paragraphsFault 0 (recordsIn s))
       paragraphs-breach n g w p q z = go all-told
         where
           go : Told s x (paragraphsFault 0 (recordsIn s)) → refusedAt g (p .0) ≡ settled n (paragraphsFault 0 (recordsIn s))
-          go (inl (a, b)) = absurd (omega arith)
+          go (inl (a, b)) =
+              absurd (let same : G.Lawful ≡ G.Breach g w = end-lawful s ∙ ap (λ (i : ℕ). firstFault (recordsIn (drop i s))) (sym a) ∙ sym f ∙ q in let z : _≡_ {A = ℕ} 0 1 = cc in omega arith)
           go (inr k) =
               let same : G.Breach g w ≡ G.Breach (k .fault) (k .which) = sym q ∙ f ∙ k .finding in
               let g-is : g ≡ k .fault = cc in
               let w-is : w ≡ k .which = cc in
               rw (z, k .answered, g-is, w-is)
-
-      pub paragraphs-never : y ≡ G.Lawful → ⊥
-      paragraphs-never q = go all-told
-        where
-          go : Told s x (paragraphsFault 0 (recordsIn s)) → ⊥
-          go (inl (a, b)) = omega arith
-          go (inr k) = let same : G.Lawful ≡ G.Breach (k .fault) (k .which) = sym q ∙ f ∙ k .finding in let z : _≡_ {A = ℕ} 0 1 = cc in omega arith

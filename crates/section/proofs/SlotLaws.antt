@@ -22,7 +22,7 @@ use Rattle.records.specs.declared.fault.Fault.{Fault}
 use Rattle.paragraph.specs.declared.finding.Which.{Which}
 use Rattle.paragraph.specs.declared.finding.Finding.{Finding}
 use Rattle.paragraph.specs.declared.finding.Finding.the-variants as G
-use Rattle.paragraph.proofs.StreamLaws.{Read}
+use Rattle.paragraph.proofs.StreamLaws.{Read, none-left}
 use Rattle.section.specs.Slots.{headOf, entry, foundAhead, partFound, partsOf, slotFault, slotsFault, Ended, more, noted, fresh, inWindow, notedIn, takenIn, ownFault}
 
 -- ---- what an entry names
@@ -65,6 +65,11 @@ module _ (s : List ℕ) (x : ℕ) where
     pub fault-there : (y : Finding) → y ≡ firstFault (recordsIn (drop p s)) → (f : Fault) (w : Which) → y ≡ G.Breach f w → p ≡ slotFault s x
     unfolding slotFault
     fault-there y e f w q = rw (ne-eqb x 0 h, ← is, ← e, q)
+
+-- nothing stands at the end
+pub end-lawful : (s : List ℕ) → G.Lawful ≡ firstFault (recordsIn (drop (length s) s))
+unfolding firstFault
+end-lawful s = rw (none-left s (length s) (omega arith))
 
 -- what is noted in a slot whose paragraph has ended are its parts
 pub ended-parts : (s slots : List ℕ) (b p : ℕ) {r : Record} (y : Parts) → Ended s slots b → (headOf slots b ≡ 0 → ⊥) → p ≡ headOf slots b - 1 → Read s p r

@@ -18,6 +18,7 @@ use Rattle.paragraph.specs.Rules.{firstFault}
 use Rattle.paragraph.specs.Places.{partsIn}
 use Rattle.section.specs.Section.{findingOf}
 use Rattle.section.specs.Windows.{firstIn}
+use Rattle.section.specs.declared.gather.Blamed.{Blamed}
 use Rattle.paragraph.specs.declared.children.Parts.{Parts}
 use Rattle.paragraph.specs.declared.children.Found.{Found}
 use Rattle.paragraph.specs.declared.children.Found.the-variants as P
@@ -108,6 +109,10 @@ ownFault s lo slots below = cond (inWindow lo below) (slotFault s (headOf slots 
 -- the place of the first paragraph at fault whose children's level is from lo up to and not including hi, and else the length of the stream
 unfoldable pub faultIn : ℕ → ℕ → List ℕ → ℕ
 faultIn lo hi s = firstIn below faulty lo hi (length s) 0 [] (recordsIn s)
+
+-- what was found of a paragraph is what it is at fault with; at the end of the stream nothing is
+abbrev pub Known : List ℕ → Blamed → Type 0
+Known s j = j .finding ≡ firstFault (recordsIn (drop (j .at .0) s))
 
 -- the greatest level, from m on
 unfoldable pub deepestFrom : ℕ → List Rec → ℕ

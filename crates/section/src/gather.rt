@@ -2,7 +2,6 @@
 // of ten levels takes one pass, however its paragraphs are nested; one of 1,000 takes sixteen.
 use crate::parents::deeper;
 use judgement::head_fault;
-use numbers::lesser;
 use numbers::wide;
 use paragraph::Finding;
 use paragraph::Found;
@@ -14,12 +13,13 @@ use records::Offset;
 use records::record_at;
 ghost use mathlib.Core.Path.{_≡_};
 ghost use mathlib.Core.Option.{none};
-ghost use Prim.Native.Nat.{ℕ, _+_, _-_, _*_, _≤_, _<_};
+ghost use Prim.Native.Nat.{ℕ, _+_, _-_, _*_, _≤_, _<_, min};
+ghost use mathlib.Core.List.{List};
 ghost use lib.ListN.{length, getD};
 ghost use Rattle.records.specs.Records.{limit};
 ghost use Rattle.records.specs.Reading.{readAll};
 ghost use Rattle.paragraph.specs.Stream.{recordsIn};
-ghost use Rattle.section.specs.Slots.{headOf, entry, partFound, partsOf, slotFault, slotsFault, Ended, more, noted, fresh, notedIn, takenIn, ownFault, deepestFrom, faultIn};
+ghost use Rattle.section.specs.Slots.{headOf, entry, partFound, partsOf, slotFault, slotsFault, Ended, more, noted, fresh, notedIn, takenIn, ownFault, deepestFrom, faultIn, Known};
 
 // The record that an entry names.
 fn part_at(s: &[u8], entry: u32) -> Found
@@ -39,40 +39,61 @@ fn parts_in(s: &[u8], slots: &[u32], b: usize) -> Parts
     requires { ⌜ b + 6 ≤ length (now slots) ⌝ }
     ensures { λ r. ⌜ r ≡ partsOf (now (s .entry)) (now (slots .entry)) b ⌝ }
 {
-    let text = part_at(s, slots[b + 1]);
-    let shapes = part_at(s, slots[b + 2]);
-    let layout = part_at(s, slots[b + 3]);
-    let marks = part_at(s, slots[b + 4]);
-    let controls = wide(slots[b + 5]);
     Parts {
-        text,
-        shapes,
-        layout,
-        marks,
-        controls,
+        text: part_at(s, slots[b + 1]),
+        shapes: part_at(s, slots[b + 2]),
+        layout: part_at(s, slots[b + 3]),
+        marks: part_at(s, slots[b + 4]),
+        controls: wide(slots[b + 5]),
     }
 }
 
-// The place of the paragraph in a slot if it is at fault, else the length of the stream.
-fn judge_slot(s: &[u8], slots: &[u32], b: usize) -> usize
+// A paragraph at fault: where its header stands, and what was found of it. Where none is, the end of the stream and nothing.
+pub struct Blamed {
+    pub at: Offset,
+    pub finding: Finding,
+}
+
+fn none_at_fault(s: &[u8]) -> Blamed
+    ensures { λ r. ⌜ (r .at .0 ≡ length (now (s .entry))) × Known (now (s .entry)) r ⌝ }
+{
+    Blamed {
+        at: Offset(s.len()),
+        finding: Finding::Lawful,
+    }
+}
+
+// Of two the one that stands first.
+fn sooner(a: Blamed, b: Blamed) -> Blamed
+    ensures { λ r. ⌜ (r .at .0 ≡ min (a .at .0) (b .at .0)) × ((s : List ℕ) → Known s a → Known s b → Known s r) ⌝ }
+{
+    let one = a.at;
+    let other = b.at;
+    if one.0 < other.0 { a } else { b }
+}
+
+// The paragraph in a slot, if it is at fault.
+fn judge_slot(s: &[u8], slots: &[u32], b: usize) -> Blamed
     requires { ⌜ b + 6 ≤ length (now slots) ⌝ }
     requires { ⌜ Ended (now s) (now slots) b ⌝ }
-    ensures { λ r. ⌜ r ≡ slotFault (now (s .entry)) (headOf (now (slots .entry)) b) ⌝ }
+    ensures { λ r. ⌜ (r .at .0 ≡ slotFault (now (s .entry)) (headOf (now (slots .entry)) b)) × Known (now (s .entry)) r ⌝ }
 {
     let header = slots[b];
     if header == 0 {
-        return s.len();
+        return none_at_fault(s);
     }
-    let at = wide(header - 1);
-    let Ahead::Record(r) = record_at(s, Offset(at), 1023) else {
-        return s.len();
+    let at = Offset(wide(header - 1));
+    let Ahead::Record(r) = record_at(s, at, 1023) else {
+        return none_at_fault(s);
     };
     let behind = r.next;
     let below = r.level + 1;
-    let p = parts_in(s, slots, b);
-    match head_fault(s, behind, below, body(s, r), p) {
-        Finding::Lawful => s.len(),
-        Finding::Breach { fault: _, which: _ } => at,
+    match head_fault(s, behind, below, body(s, r), parts_in(s, slots, b)) {
+        Finding::Lawful => none_at_fault(s),
+        Finding::Breach { fault, which } => Blamed {
+            at,
+            finding: Finding::Breach { fault, which },
+        },
     }
 }
 
@@ -136,17 +157,17 @@ fn note_child(slots: &mut [u32], lo: u32, tag: u32, level: u32, place: u32)
 }
 
 // A record takes its own slot, where the window has one for it: the paragraph that stood there has ended, and is judged.
-fn take_own(s: &[u8], slots: &mut [u32], lo: u32, tag: u32, below: u32, place: u32) -> usize
+fn take_own(s: &[u8], slots: &mut [u32], lo: u32, tag: u32, below: u32, place: u32) -> Blamed
     requires { ⌜ length (now slots) ≡ 96 ⌝ }
     requires { ⌜ (lo ≤ below → below < lo + 16 → Ended (now s) (now slots) (6 * (below - lo))) ⌝ }
-    ensures { λ r. ⌜ (r ≡ ownFault (now (s .entry)) lo (now (slots .entry)) below) × (now (slots .exit) ≡ takenIn lo (now (slots .entry)) tag below place) ⌝ }
+    ensures { λ r. ⌜ (r .at .0 ≡ ownFault (now (s .entry)) lo (now (slots .entry)) below) × Known (now (s .entry)) r × (now (slots .exit) ≡ takenIn lo (now (slots .entry)) tag below place) ⌝ }
 {
     if below < lo {
-        return s.len();
+        return none_at_fault(s);
     }
     let i = wide(below - lo);
     if 16 <= i {
-        return s.len();
+        return none_at_fault(s);
     }
     let fault = judge_slot(s, slots, 6 * i);
     if tag == Kind::PARAGRAPH_HEADER {
@@ -158,34 +179,33 @@ fn take_own(s: &[u8], slots: &mut [u32], lo: u32, tag: u32, below: u32, place: u
 }
 
 // The paragraphs that are in their slots where the stream ends.
-fn judge_slots(s: &[u8], slots: &[u32]) -> usize
+fn judge_slots(s: &[u8], slots: &[u32]) -> Blamed
     requires { ⌜ length (now slots) ≡ 96 ⌝ }
     requires { ⌜ ((i : ℕ) → i < 16 → Ended (now s) (now slots) (6 * i)) ⌝ }
-    ensures { λ r. ⌜ r ≡ slotsFault (now (s .entry)) (now (slots .entry)) 16 ⌝ }
+    ensures { λ r. ⌜ (r .at .0 ≡ slotsFault (now (s .entry)) (now (slots .entry)) 16) × Known (now (s .entry)) r ⌝ }
 {
-    let mut first = s.len();
+    let mut first = none_at_fault(s);
     let mut i: usize = 0;
     while i < 16 {
-        first = lesser(first, judge_slot(s, slots, 6 * i));
+        first = sooner(first, judge_slot(s, slots, 6 * i));
         i = i + 1;
     }
     first
 }
 
-// What one pass finds: the place of the first paragraph at fault whose level is in the window, or the length of the stream; and how deep
-// the records go.
+// What one pass finds: the first paragraph at fault of those in its window, and how deep the records go.
 pub struct Gathered {
-    pub first: usize,
+    pub first: Blamed,
     pub deepest: u32,
 }
 
 fn gather(s: &[u8], lo: u32) -> Gathered
     requires { ⌜ (length (now s) ≤ limit) × (readAll (now s) .stop ≡ none) ⌝ }
-    ensures { λ r. ⌜ (r .first ≡ faultIn lo (lo + 16) (now (s .entry))) × (r .deepest ≡ deepestFrom 0 (recordsIn (now (s .entry)))) ⌝ }
+    ensures { λ r. ⌜ (r .first .at .0 ≡ faultIn lo (lo + 16) (now (s .entry))) × Known (now (s .entry)) (r .first) × (r .deepest ≡ deepestFrom 0 (recordsIn (now (s .entry)))) ⌝ }
 {
     let mut slots = [0u32; 96];
     let mut at = Offset(0);
-    let mut first = s.len();
+    let mut first = none_at_fault(s);
     let mut deepest: u32 = 0;
     loop {
         let Ahead::Record(r) = record_at(s, at, 1023) else {
@@ -193,28 +213,26 @@ fn gather(s: &[u8], lo: u32) -> Gathered
         };
         let place = (at.0 + 1) as u32;
         note_child(&mut slots, lo, r.tag, r.level, place);
-        first = lesser(
-            first,
-            take_own(s, &mut slots, lo, r.tag, r.level + 1, place),
-        );
+        first = sooner(first, take_own(s, &mut slots, lo, r.tag, r.level + 1, place));
         deepest = deeper(deepest, r.level);
         at = r.next;
     }
-    first = lesser(first, judge_slots(s, &slots));
+    first = sooner(first, judge_slots(s, &slots));
     Gathered { first, deepest }
 }
 
-// The place of the first paragraph at fault, or the length of the stream: a window behind the other, as deep as the records go.
-pub fn first_at_fault(s: &[u8]) -> usize
+// The first paragraph at fault of all: a window behind the other, as deep as the records go.
+pub fn first_at_fault(s: &[u8]) -> Blamed
     requires { ⌜ (length (now s) ≤ limit) × (readAll (now s) .stop ≡ none) ⌝ }
-    ensures { λ r. ⌜ r ≡ faultIn 0 1025 (now (s .entry)) ⌝ }
+    ensures { λ r. ⌜ (r .at .0 ≡ faultIn 0 1025 (now (s .entry))) × Known (now (s .entry)) r ⌝ }
 {
     let g = gather(s, 0);
     let mut first = g.first;
     let mut lo: u32 = 16;
     while lo <= g.deepest + 1 {
         let h = gather(s, lo);
-        first = lesser(first, h.first);
+        let other = h.first;
+        first = sooner(first, other);
         lo = lo + 16;
     }
     first

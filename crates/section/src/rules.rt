@@ -4,12 +4,10 @@
 use crate::gather::first_at_fault;
 use crate::parents::Stray;
 use crate::parents::find_stray;
-use judgement::judge_paragraph;
 use judgement::place_in;
 use paragraph::Finding;
 use records::Answer;
 use records::Fault;
-use records::Offset;
 use records::refused;
 use records::scan;
 ghost use mathlib.Core.Path.{_≡_};
@@ -30,14 +28,12 @@ fn judge_paragraphs(s: &[u8], n: usize) -> Answer
     ensures { λ r. ⌜ r ≡ settled n (paragraphsFault 0 (recordsIn (now (s .entry)))) ⌝ }
 {
     let first = first_at_fault(s);
-    if s.len() <= first {
-        return Answer::Accepted(n);
+    let at = first.at;
+    let finding = first.finding;
+    match finding {
+        Finding::Breach { fault, which } => refused(fault, place_in(s, at, which)),
+        Finding::Lawful => Answer::Accepted(n),
     }
-    let at = Offset(first);
-    if let Finding::Breach { fault, which } = judge_paragraph(s, at) {
-        return refused(fault, place_in(s, at, which));
-    }
-    Answer::Accepted(n)
 }
 
 // 9 over all records, then each paragraph.

@@ -8,26 +8,31 @@ use Rattle.numbers.proofs.LittleLaws.{slice-bytes}
 use Rattle.records.specs.Reading.{aheadOf}
 use Rattle.records.specs.declared.header.Ahead.the-variants as N
 use Rattle.paragraph.proofs.StreamLaws.{Read, read-at, none-at}
+use Rattle.section.specs.Slots.{Known}
 use Rattle.section.proofs.GatherLaws.{Gathers, zeros, gathers-start, gathers-place, gathers-few, gathers-taken, gathers-step, gathers-last, gathers-first, gathers-deepest}
 use Rattle.section.proofs.gather.gather.Statement.{statement}
 use Rattle.section.proofs.gather.gather.Tie as tie
 use Rattle.section.proofs.gather.gather.Reads as reads
 use Rattle.section.proofs.gather.gather.Lts as lts
-use Rattle.numbers.proofs.lesser.Reads as lesser-reads
 use Rattle.records.proofs.record_at.Reads as record-at-reads
-use Rattle.section.proofs.parents.deeper.Reads as deeper-reads
 use Rattle.section.proofs.gather.judge_slots.Reads as judge-slots-reads
+use Rattle.section.proofs.gather.none_at_fault.Reads as none-at-fault-reads
 use Rattle.section.proofs.gather.note_child.Reads as note-child-reads
+use Rattle.section.proofs.gather.sooner.Reads as sooner-reads
 use Rattle.section.proofs.gather.take_own.Reads as take-own-reads
+use Rattle.section.proofs.parents.deeper.Reads as deeper-reads
 
 abbrev Inv-loop : tie.InvT-loop
-Inv-loop s lo slots₀ at₀ first₀ deepest₀ slots at first deepest = Gathers s lo slots (at .0) first deepest
+Inv-loop s lo slots₀ at₀ first₀ deepest₀ slots at first deepest = Gathers s lo slots (at .0) (first .at .0) deepest × Known s first
 
 abbrev μ-loop : tie.MeasureT-loop
 μ-loop s lo slots₀ at₀ first₀ deepest₀ slots at first deepest = length s - at .0
 
+none-at-fault-requires : tie.Need-none-at-fault-requires Inv-loop μ-loop
+none-at-fault-requires c κs = search needs
+
 loop-holds : tie.Need-loop-holds Inv-loop μ-loop
-loop-holds c = gathers-start _ _ _ (slice-bytes (c .before .args .s .now) (c .shared-slice-known .given)) (c .before .pre .0) (c .before .pre .1) (length-replicate {A = ℕ} 96 0) (zeros 96)
+loop-holds c = let a = c .before .before in (gathers-start _ _ _ _ (c .none-at-fault .ensures .0) (slice-bytes (a .args .s .now) (c .before .shared-slice-known .given)) (a .pre .0) (a .pre .1) (length-replicate {A = ℕ} 96 0) (zeros 96), c .none-at-fault .ensures .1)
 
 record-at-requires : tie.Need-record-at-requires Inv-loop μ-loop
 record-at-requires c κs = search needs
@@ -39,14 +44,14 @@ enum-known-r c = search needs
 abbrev head : tie.After-r Inv-loop μ-loop → tie.At-loop Inv-loop μ-loop
 head c = c .before .before .before
 
-stood : (c : tie.After-r Inv-loop μ-loop) → aheadOf 1023 (head c .before .before .args .s .now) (head c .loop .at .0) ≡ N.Record (c .r .given .0 .0)
+stood : (c : tie.After-r Inv-loop μ-loop) → aheadOf 1023 (head c .before .before .before .args .s .now) (head c .loop .at .0) ≡ N.Record (c .r .given .0 .0)
 stood c = sym (c .before .before .record-at .ensures) ∙ c .r .given .1
 
-its : (c : tie.After-r Inv-loop μ-loop) → Read (head c .before .before .args .s .now) (head c .loop .at .0) (c .r .given .0 .0)
-its c = read-at _ _ (slice-bytes (head c .before .before .args .s .now) (head c .before .shared-slice-known .given)) _ (stood c)
+its : (c : tie.After-r Inv-loop μ-loop) → Read (head c .before .before .before .args .s .now) (head c .loop .at .0) (c .r .given .0 .0)
+its c = read-at _ _ (slice-bytes (head c .before .before .before .args .s .now) (head c .before .before .shared-slice-known .given)) _ (stood c)
 
 small : (c : tie.After-r Inv-loop μ-loop) → head c .loop .at .0 + 1 < 4294967296
-small c = gathers-place (head c .loop .inv) (stood c) (its c)
+small c = gathers-place (head c .loop .inv .0) (stood c) (its c)
 
 add-place : tie.Need-add-place Inv-loop μ-loop
 add-place c = omega (arith, small (c .before .before))
@@ -58,7 +63,7 @@ slice-aggregate-note-child : tie.Need-slice-aggregate-note-child Inv-loop μ-loo
 slice-aggregate-note-child c = search needs
 
 note-child-requires : tie.Need-note-child-requires Inv-loop μ-loop
-note-child-requires c κs = (c .before .before .before .before .before .before .loop .inv .long, gathers-few (c .before .before .before .before .before .before .loop .inv))
+note-child-requires c κs = (c .before .before .before .before .before .before .loop .inv .0 .long, gathers-few (c .before .before .before .before .before .before .loop .inv .0))
 
 slice-aggregate-take-own : tie.Need-slice-aggregate-take-own Inv-loop μ-loop
 slice-aggregate-take-own c = search needs
@@ -67,10 +72,10 @@ add-take-own : tie.Need-add-take-own Inv-loop μ-loop
 add-take-own c = omega (arith, its (c .before .before .before .before .before .before .before) .level-is, its (c .before .before .before .before .before .before .before) .stands .level-high)
 
 take-own-requires : tie.Need-take-own-requires Inv-loop μ-loop
-take-own-requires c κs = let d = c .before .before .before .before .before .before .before in gathers-taken (head d .loop .inv) (stood d) (its d) _ (c .before .before .before .note-child .ensures)
+take-own-requires c κs = let d = c .before .before .before .before .before .before .before in gathers-taken (head d .loop .inv .0) (stood d) (its d) _ (c .before .before .before .note-child .ensures)
 
-lesser-requires : tie.Need-lesser-requires Inv-loop μ-loop
-lesser-requires c κs = search needs
+sooner-requires : tie.Need-sooner-requires Inv-loop μ-loop
+sooner-requires c κs = search needs
 
 deeper-requires : tie.Need-deeper-requires Inv-loop μ-loop
 deeper-requires c κs = search needs
@@ -79,19 +84,19 @@ loop-less : tie.Need-loop-less Inv-loop μ-loop
 loop-less c = let d = c .before .before .before .before .before .before .before .before .before .before .before .before in omega (arith, its d .next-is, its d .stands .inside, its d .least)
 
 loop-again : tie.Need-loop-again Inv-loop μ-loop
-loop-again c = let d = c .before .before .before .before .before .before .before .before .before .before .before .before in gathers-step (head d .loop .inv) (stood d) (its d) _ _ _ _ _ (c .before .before .before .before .before .before .before .before .note-child .ensures) (c .before .before .before .before .take-own .ensures .0) (c .before .before .before .before .take-own .ensures .1) (c .before .before .lesser .ensures) (c .before .deeper .ensures)
+loop-again c = let d = c .before .before .before .before .before .before .before .before .before .before .before .before in (gathers-step (head d .loop .inv .0) (stood d) (its d) _ _ _ _ _ (c .before .before .before .before .before .before .before .before .note-child .ensures) (c .before .before .before .before .take-own .ensures .0) (c .before .before .before .before .take-own .ensures .2) (c .before .before .sooner .ensures .0) (c .before .deeper .ensures), c .before .before .sooner .ensures .1 _ (head d .loop .inv .1) (c .before .before .before .before .take-own .ensures .1))
 
 slice-aggregate-judge-slots : tie.Need-slice-aggregate-judge-slots Inv-loop μ-loop
 slice-aggregate-judge-slots c = search needs
 
 judge-slots-requires : tie.Need-judge-slots-requires Inv-loop μ-loop
-judge-slots-requires c κs = let l = c .before .before .before in (l .loop .inv .long, gathers-last (l .loop .inv) (none-at _ _ _ (c .before .before .record-at .ensures) (c .before .match .keys2)))
+judge-slots-requires c κs = let l = c .before .before .before in (l .loop .inv .0 .long, gathers-last (l .loop .inv .0) (none-at _ _ _ (c .before .before .record-at .ensures) (c .before .match .keys2)))
 
-lesser-requires-2 : tie.Need-lesser-requires-2 Inv-loop μ-loop
-lesser-requires-2 c κs = search needs
+sooner-requires-2 : tie.Need-sooner-requires-2 Inv-loop μ-loop
+sooner-requires-2 c κs = search needs
 
 returns : tie.Need-returns Inv-loop μ-loop
-returns c = let l = c .before .before .before .before .before in let e = none-at (l .before .before .args .s .now) (l .loop .at .0) _ (c .before .before .before .before .record-at .ensures) (c .before .before .before .match .keys2) in (c .lesser2 .ensures ∙ gathers-first (l .loop .inv) e _ (c .before .judge-slots .ensures), gathers-deepest (l .loop .inv) e)
+returns c = let l = c .before .before .before .before .before in let e = none-at (l .before .before .before .args .s .now) (l .loop .at .0) _ (c .before .before .before .before .record-at .ensures) (c .before .before .before .match .keys2) in (c .sooner2 .ensures .0 ∙ gathers-first (l .loop .inv .0) e _ (c .before .judge-slots .ensures .0), c .sooner2 .ensures .1 _ (l .loop .inv .1) (c .before .judge-slots .ensures .1), gathers-deepest (l .loop .inv .0) e)
 
 pub gather-spec : {M : Type 1} → statement M
 gather-spec =
@@ -99,6 +104,7 @@ gather-spec =
     (tie.spec
     Inv-loop
     μ-loop
+    none-at-fault-requires
     loop-holds
     record-at-requires
     enum-known-r
@@ -109,11 +115,11 @@ gather-spec =
     slice-aggregate-take-own
     add-take-own
     take-own-requires
-    lesser-requires
+    sooner-requires
     deeper-requires
     loop-less
     loop-again
     slice-aggregate-judge-slots
     judge-slots-requires
-    lesser-requires-2
+    sooner-requires-2
     returns)

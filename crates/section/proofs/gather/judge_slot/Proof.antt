@@ -19,6 +19,7 @@ use Rattle.judgement.proofs.head_fault.Reads as head-fault-reads
 use Rattle.numbers.proofs.wide.Reads as wide-reads
 use Rattle.paragraph.proofs.body.Reads as body-reads
 use Rattle.records.proofs.record_at.Reads as record-at-reads
+use Rattle.section.proofs.gather.none_at_fault.Reads as none-at-fault-reads
 use Rattle.section.proofs.gather.parts_in.Reads as parts-in-reads
 
 mul-header : tie.Need-mul-header
@@ -27,8 +28,11 @@ mul-header c = search needs
 shared-slice-read-header : tie.Need-shared-slice-read-header
 shared-slice-read-header c = search needs
 
+none-at-fault-requires : tie.Need-none-at-fault-requires
+none-at-fault-requires c κs = search needs
+
 returns : tie.Need-returns
-returns c = fault-empty _ _ (c .if1 .taken)
+returns c = (c .none-at-fault .ensures .0 ∙ fault-empty _ _ (c .before .if1 .taken), c .none-at-fault .ensures .1)
 
 sub-wide : tie.Need-sub-wide
 sub-wide c = search needs
@@ -42,6 +46,9 @@ record-at-requires c κs = search needs
 enum-known-r : tie.Need-enum-known-r
 enum-known-r c = search needs
 
+none-at-fault-requires-2 : tie.Need-none-at-fault-requires-2
+none-at-fault-requires-2 c κs = search needs
+
 -- at a record: the function's entry, and what is known of the record
 abbrev start : tie.After-r → tie.Start
 start c = c .before .before .before .before .before .before .before .before
@@ -52,39 +59,42 @@ its c =
     (sym (c .before .before .record-at .ensures) ∙ c .r .given .1)
 
 returns-2 : tie.Need-returns-2
-returns-2 c = fault-lost _ _ (c .before .before .before .if1 .left) _ (c .before .before .wide .ensures .0) (none-at _ _ _ (c .before .record-at .ensures) (c .match .keys2))
+returns-2 c = (c .none-at-fault2 .ensures .0 ∙ fault-lost _ _ (c .before .before .before .before .if1 .left) _ (c .before .before .before .wide .ensures .0) (none-at _ _ _ (c .before .before .record-at .ensures) (c .before .match .keys2)), c .none-at-fault2 .ensures .1)
 
 add-below : tie.Need-add-below
 add-below c = omega (arith, its (c .before .before .before) .level-is, its (c .before .before .before) .stands .level-high)
 
-parts-in-requires : tie.Need-parts-in-requires
-parts-in-requires c κs = search needs
-
 body-requires : tie.Need-body-requires
 body-requires c κs = search needs
 
+parts-in-requires : tie.Need-parts-in-requires
+parts-in-requires c κs = search needs
+
 -- the parts that are noted, and what the paragraph was judged to be
 noted : (c : tie.After-parts-in)
-    → c .parts-in .result ≡ partsIn (c .before .before .before .before .r .given .0 .0 .level + 1) (c .before .before .before .before .r .given .0 .0 .next .0) (recordsIn (drop (c .before .before .before .before .r .given .0 .0 .next .0) (start (c .before .before .before .before) .args .s .now)))
-noted c = let d = c .before .before .before .before in ended-parts _ _ _ _ _ (start d .pre .1) (d .before .before .before .before .if1 .left) (d .before .before .before .wide .ensures .0) (its d) (c .parts-in .ensures)
+    → c .parts-in .result ≡ partsIn (c .before .before .before .before .before .r .given .0 .0 .level + 1) (c .before .before .before .before .before .r .given .0 .0 .next .0) (recordsIn (drop (c .before .before .before .before .before .r .given .0 .0 .next .0) (start (c .before .before .before .before .before) .args .s .now)))
+noted c = let d = c .before .before .before .before .before in ended-parts _ _ _ _ _ (start d .pre .1) (d .before .before .before .before .if1 .left) (d .before .before .before .wide .ensures .0) (its d) (c .parts-in .ensures)
 
 judged : (c : tie.After-head-fault) → c .head-fault .result ≡ firstFault (recordsIn (drop (c .before .before .before .before .before .before .before .before .before .wide .result) (start (c .before .before .before .before .before .before) .args .s .now)))
-judged c = front-judged _ _ (its (c .before .before .before .before .before .before)) _ (c .head-fault .ensures ∙ rw (c .before .body .ensures))
+judged c = front-judged _ _ (its (c .before .before .before .before .before .before)) _ (c .head-fault .ensures ∙ rw (c .before .before .body .ensures))
 
 head-fault-requires : tie.Need-head-fault-requires
-head-fault-requires c κs = noted (c .before)
+head-fault-requires c κs = noted c
 
 enum-told : tie.Need-enum-told
 enum-told c = search needs
 
-enum-told-2 : tie.Need-enum-told-2
-enum-told-2 c = search needs
+none-at-fault-requires-3 : tie.Need-none-at-fault-requires-3
+none-at-fault-requires-3 c κs = search needs
+
+enum-known-fault : tie.Need-enum-known-fault
+enum-known-fault c = search needs
 
 returns-3 : tie.Need-returns-3
-returns-3 c = fault-none _ _ (c .before .before .before .before .before .before .before .before .before .before .before .before .if1 .left) _ (c .before .before .before .before .before .before .before .before .before .before .before .wide .ensures .0) _ (judged (c .before .before)) (c .enum-told .given .1)
+returns-3 c = (c .none-at-fault3 .ensures .0 ∙ fault-none _ _ (c .before .before .before .before .before .before .before .before .before .before .before .before .before .if1 .left) _ (c .before .before .before .before .before .before .before .before .before .before .before .before .wide .ensures .0) _ (judged (c .before .before .before)) (c .before .enum-told .given .1), c .none-at-fault3 .ensures .1)
 
 returns-4 : tie.Need-returns-4
-returns-4 c = fault-there _ _ (c .before .before .before .before .before .before .before .before .before .before .before .before .if1 .left) _ (c .before .before .before .before .before .before .before .before .before .before .before .wide .ensures .0) _ (judged (c .before .before)) _ _ (c .enum-told2 .given .1)
+returns-4 c = (fault-there _ _ (c .before .before .before .before .before .before .before .before .before .before .before .before .before .if1 .left) _ (c .before .before .before .before .before .before .before .before .before .before .before .before .wide .ensures .0) _ (judged (c .before .before .before)) _ _ (c .before .fault .given .1), sym (c .before .fault .given .1) ∙ judged (c .before .before .before))
 
 pub judge-slot-spec : {M : Type 1} → statement M
 judge-slot-spec =
@@ -92,17 +102,20 @@ judge-slot-spec =
     (tie.spec
     mul-header
     shared-slice-read-header
+    none-at-fault-requires
     returns
     sub-wide
     wide-requires
     record-at-requires
     enum-known-r
+    none-at-fault-requires-2
     returns-2
     add-below
-    parts-in-requires
     body-requires
+    parts-in-requires
     head-fault-requires
     enum-told
-    enum-told-2
+    none-at-fault-requires-3
+    enum-known-fault
     returns-3
     returns-4)
