@@ -225,10 +225,6 @@ module _ (s : List ℕ) (at : ℕ) {r : Record} (d : Read s at r) where
       ∙ ap₂ (λ (m a : ℕ). foundIn m tag nth a (recordsIn (drop (r .next .0) s))) next-level (d .next-is)
       ∙ ap (λ (l : List Rec). childIn at l tag nth) (sym (d .records))
 
-pub front-none : (s : List ℕ) (at : ℕ) → recordsIn (drop at s) ≡ [] → G.Lawful ≡ firstFault (recordsIn (drop at s))
-unfolding firstFault
-front-none s at e = rw e
-
 pub child-none : (s : List ℕ) (at tag nth : ℕ) → recordsIn (drop at s) ≡ [] → P.Nothing ≡ childIn at (recordsIn (drop at s)) tag nth
 unfolding childIn
 child-none s at tag nth e = rw e

@@ -16,7 +16,6 @@ use paragraph::body;
 use paragraph::bytes;
 use paragraph::field_short;
 use paragraph::find;
-use paragraph::find_parts;
 use paragraph::owned_header;
 use paragraph::unit_place;
 use reader::next_control;
@@ -187,19 +186,6 @@ pub fn head_fault(s: &[u8], from: Offset, n: u32, head: &[u8], p: Parts) -> Find
         return of_header(Fault::ParagraphHeaderShort);
     }
     parts_fault(s, from, n, counts(head), p)
-}
-
-// The paragraph whose header stands at a place.
-pub fn judge_paragraph(s: &[u8], at: Offset) -> Finding
-    ensures { λ r. ⌜ r ≡ rules.firstFault (recordsIn (drop (at .0) (now (s .entry)))) ⌝ }
-{
-    let Ahead::Record(r) = record_at(s, at, 1023) else {
-        return Finding::Lawful;
-    };
-    let behind = r.next;
-    let below = r.level + 1;
-    let p = find_parts(s, behind, below);
-    head_fault(s, behind, below, body(s, r), p)
 }
 
 fn place_found(other: Offset, f: Found) -> Offset

@@ -3,5 +3,4 @@ mod judge;
 mod rules;
 
 pub use judge::head_fault;
-pub use judge::judge_paragraph;
 pub use judge::place_in;

@@ -1,12 +1,12 @@
 -- One pass over a paragraph's children: what was found so far, and what the rest adds. Assumes nothing.
 use Prim.Native.Nat.{ℕ, _+_, _≤_}
 use native.Mathlib.Omega.{arith}
-use mathlib.Core.Path.{_≡_, refl, sym, ap, _∙_, subst}
+use mathlib.Core.Path.{_≡_, refl, sym, ap, _∙_}
 use mathlib.Core.Bool.{Bool, true, false, cond}
 use mathlib.Core.List.{List, [], _∷_}
 use lib.Dec.{eqb}
 use lib.ListN.{length, drop}
-use borrow.Author.Tests.{eqb-true, eqb-false, eq-eqb, ne-eqb}
+use borrow.Author.Tests.{eqb-true, eqb-false}
 use Rattle.records.specs.Records.{Rec, size}
 use Rattle.records.specs.Reading.{recordAt}
 use Rattle.records.specs.declared.header.Record.{Record}
@@ -20,7 +20,6 @@ use Rattle.paragraph.specs.declared.children.Found.{Found}
 use Rattle.paragraph.specs.declared.children.Found.the-variants as P
 use Rattle.paragraph.proofs.StreamLaws.{Read}
 use Rattle.paragraph.proofs.FindLaws.{sought-beyond, sought-passed, sought-owned, sought-other, found-beyond, found-passed, found-here}
-use Rattle.paragraph.proofs.ViewLaws.{side-tags}
 use Rattle.paragraph.proofs.BodyLaws.{kids-beyond, kids-owned, kids-passed, controls-here, controls-other}
 
 -- what was found before, else what the rest has
@@ -51,11 +50,6 @@ taken a p =
 
 abbrev pub nothing : Parts
 nothing = record { text = P.Nothing; shapes = P.Nothing; layout = P.Nothing; marks = P.Nothing; controls = 0 }
-
--- parts, one by one
-same-parts : {t t′ s s′ l l′ m m′ : Found} {c c′ : ℕ} → t ≡ t′ → s ≡ s′ → l ≡ l′ → m ≡ m′ → c ≡ c′
-    → _≡_ {A = Parts} (record { text = t; shapes = s; layout = l; marks = m; controls = c }) (record { text = t′; shapes = s′; layout = l′; marks = m′; controls = c′ })
-same-parts a b c d e = rw (a, b, c, d, e)
 
 earlier-none : (f : Found) → earlier f P.Nothing ≡ f
 earlier-none (P.At p) = refl
@@ -119,28 +113,6 @@ module _ (n at : ℕ) (r : Rec) (rs : List Rec) where
   parts-owned e a =
       rw (found-taken e 67 (a .text), found-taken e 68 (a .shapes), found-taken e 69 (a .layout), found-taken e 70 (a .marks), controls-taken e (a .controls))
 
--- a record of the tag t, and one of another, to what was found before
-module _ (f : Found) (tag t : ℕ) (r : Record) where
-  taken-this : tag ≡ t → takenAs f true r ≡ takenAs f (eqb tag t) r
-  taken-this e = rw (eq-eqb tag t e)
-
-  taken-not : (tag ≡ t → ⊥) → f ≡ takenAs f (eqb tag t) r
-  taken-not e = rw (ne-eqb tag t e) (go f)
-    where
-      go : (f : Found) → f ≡ takenAs f false r
-      go (P.At p) = refl
-      go P.Nothing = refl
-
--- of the tags from 67 to 71 the last is left
-above : (k t : ℕ) → k ≤ t → (t ≡ k → ⊥) → k + 1 ≤ t
-above k t h e = omega arith
-
-left-one : (t : ℕ) → 67 ≤ t → t ≤ 71 → (t ≡ 67 → ⊥) → (t ≡ 68 → ⊥) → (t ≡ 69 → ⊥) → (t ≡ 70 → ⊥) → t ≡ 71
-left-one t l h a b c d = last (above 70 t (above 69 t (above 68 t (above 67 t l a) b) c) d)
-  where
-    last : 71 ≤ t → t ≡ 71
-    last k = omega (arith, k, h)
-
 -- ---- the loop
 
 pub record Gathering (s : List ℕ) (n from : ℕ) (a : Parts) (at : ℕ) : Type 0 where
@@ -184,50 +156,6 @@ module _ {s : List ℕ} {n from at : ℕ} {a : Parts} {r : Record} (k : Gatherin
             ∙ behind (taken a (recordAt at (d .rec)))
             ∙ ap (λ (p : Record). joined (taken a p) (partsIn n (r .next .0) (recordsIn (drop (r .next .0) s)))) (sym (d .is));
       }
-
-  gather-owned : {t h l m : Found} {c : ℕ} → side-of ≡ S.Owned
-      → t ≡ takenAs (a .text) (eqb (r .tag) 67) r → h ≡ takenAs (a .shapes) (eqb (r .tag) 68) r → l ≡ takenAs (a .layout) (eqb (r .tag) 69) r
-      → m ≡ takenAs (a .marks) (eqb (r .tag) 70) r → c ≡ a .controls + cond (eqb (r .tag) 71) 1 0
-      → Gathering s n from (record { text = t; shapes = h; layout = l; marks = m; controls = c }) (r .next .0)
-  unfolding taken
-  gather-owned e ts hs ls ms cs = subst (λ (p : Parts). Gathering s n from p (r .next .0)) (sym (same-parts ts hs ls ms cs)) (gather-child e)
-
-  -- it is the text, and none of the others; and so on
-  no-control : (r .tag ≡ 71 → ⊥) → a .controls ≡ a .controls + cond (eqb (r .tag) 71) 1 0
-  no-control e = rw (ne-eqb (r .tag) 71 e) (omega arith)
-
-  other : {t u : ℕ} (f : Found) → r .tag ≡ t → (t ≡ u → ⊥) → f ≡ takenAs f (eqb (r .tag) u) r
-  other {t} {u} f e h = taken-not f (r .tag) u r (λ z. h (sym e ∙ z))
-
-  module _ (o : side-of ≡ S.Owned) {f : Found} where
-    pub gather-text : r .tag ≡ 67 → f ≡ takenAs (a .text) true r
-        → Gathering s n from (record { text = f; shapes = a .shapes; layout = a .layout; marks = a .marks; controls = a .controls }) (r .next .0)
-    gather-text e q =
-        gather-owned o (q ∙ taken-this (a .text) (r .tag) 67 r e) (other (a .shapes) e (λ z. omega arith)) (other (a .layout) e (λ z. omega arith)) (other (a .marks) e (λ z. omega arith)) (no-control (λ z. omega arith))
-
-    pub gather-shapes : r .tag ≡ 68 → f ≡ takenAs (a .shapes) true r
-        → Gathering s n from (record { text = a .text; shapes = f; layout = a .layout; marks = a .marks; controls = a .controls }) (r .next .0)
-    gather-shapes e q =
-        gather-owned o (other (a .text) e (λ z. omega arith)) (q ∙ taken-this (a .shapes) (r .tag) 68 r e) (other (a .layout) e (λ z. omega arith)) (other (a .marks) e (λ z. omega arith)) (no-control (λ z. omega arith))
-
-    pub gather-layout : r .tag ≡ 69 → f ≡ takenAs (a .layout) true r
-        → Gathering s n from (record { text = a .text; shapes = a .shapes; layout = f; marks = a .marks; controls = a .controls }) (r .next .0)
-    gather-layout e q =
-        gather-owned o (other (a .text) e (λ z. omega arith)) (other (a .shapes) e (λ z. omega arith)) (q ∙ taken-this (a .layout) (r .tag) 69 r e) (other (a .marks) e (λ z. omega arith)) (no-control (λ z. omega arith))
-
-    pub gather-marks : r .tag ≡ 70 → f ≡ takenAs (a .marks) true r
-        → Gathering s n from (record { text = a .text; shapes = a .shapes; layout = a .layout; marks = f; controls = a .controls }) (r .next .0)
-    gather-marks e q =
-        gather-owned o (other (a .text) e (λ z. omega arith)) (other (a .shapes) e (λ z. omega arith)) (other (a .layout) e (λ z. omega arith)) (q ∙ taken-this (a .marks) (r .tag) 70 r e) (no-control (λ z. omega arith))
-
-  -- none of the four: a control header
-  pub gather-control : side-of ≡ S.Owned → (r .tag ≡ 67 → ⊥) → (r .tag ≡ 68 → ⊥) → (r .tag ≡ 69 → ⊥) → (r .tag ≡ 70 → ⊥)
-      → Gathering s n from (record { text = a .text; shapes = a .shapes; layout = a .layout; marks = a .marks; controls = a .controls + 1 }) (r .next .0)
-  gather-control o p q u v =
-      let k = side-tags n (r .tag) (r .level) o in
-      let e : r .tag ≡ 71 = left-one (r .tag) (k .0) (k .1) p q u v in
-      gather-owned o (taken-not (a .text) (r .tag) 67 r p) (taken-not (a .shapes) (r .tag) 68 r q) (taken-not (a .layout) (r .tag) 69 r u) (taken-not (a .marks) (r .tag) 70 r v)
-      (rw (eq-eqb (r .tag) 71 e))
 
 pub gather-none : {s : List ℕ} {n from at : ℕ} {a : Parts} → Gathering s n from a at → recordsIn (drop at s) ≡ []
     → a ≡ partsIn n from (recordsIn (drop from s))

@@ -3,16 +3,14 @@ use crate::view::Side;
 use crate::view::stands_to;
 use numbers::part;
 use records::Ahead;
-use records::Kind;
 use records::Offset;
 use records::Record;
 use records::record_at;
 ghost use mathlib.Core.Path.{_≡_};
-ghost use mathlib.Core.Bool.{true};
 ghost use lib.ListN.{drop};
 ghost use Rattle.paragraph.specs.Stream.{recordsIn};
 ghost use Rattle.paragraph.specs.Rules.{bytesIn};
-ghost use Rattle.paragraph.specs.Places.{sought, foundIn, takenAs, partsIn, bodyOf, bodyFound};
+ghost use Rattle.paragraph.specs.Places.{sought, foundIn, bodyOf, bodyFound};
 
 pub enum Found {
     At(Record),
@@ -69,53 +67,6 @@ pub struct Parts {
     pub layout: Found,
     pub marks: Found,
     pub controls: usize,
-}
-
-// What was found before, or else this record.
-fn first_of(f: Found, r: Record) -> Found
-    ensures { λ x. ⌜ x ≡ takenAs f true r ⌝ }
-{
-    if let Found::Nothing = f {
-        return Found::At(r);
-    }
-    f
-}
-
-// All of them in one pass over what stands below the paragraph. They are kept apart until the end: a pass writes only what it finds.
-pub fn find_parts(s: &[u8], from: Offset, n: u32) -> Parts
-    ensures { λ r. ⌜ r ≡ partsIn n (from .0) (recordsIn (drop (from .0) (now (s .entry)))) ⌝ }
-{
-    let mut text = Found::Nothing;
-    let mut shapes = Found::Nothing;
-    let mut layout = Found::Nothing;
-    let mut marks = Found::Nothing;
-    let mut controls: usize = 0;
-    let mut at = from;
-    loop {
-        let Ahead::Record(r) = record_at(s, at, 1023) else {
-            break;
-        };
-        let tag = r.tag;
-        match stands_to(n, tag, r.level) {
-            Side::Beyond => break,
-            Side::Passed => {}
-            Side::Owned => match tag {
-                Kind::TEXT => text = first_of(text, r),
-                Kind::SHAPES => shapes = first_of(shapes, r),
-                Kind::LAYOUT => layout = first_of(layout, r),
-                Kind::MARKS => marks = first_of(marks, r),
-                _ => controls = controls + 1,
-            },
-        }
-        at = r.next;
-    }
-    Parts {
-        text,
-        shapes,
-        layout,
-        marks,
-        controls,
-    }
 }
 
 // The bytes of a record's body, as far as they are there.

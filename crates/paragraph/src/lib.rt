@@ -9,7 +9,6 @@ pub use children::Parts;
 pub use children::body;
 pub use children::bytes;
 pub use children::find;
-pub use children::find_parts;
 pub use fields::Owned;
 pub use fields::Owner;
 pub use fields::field_short;

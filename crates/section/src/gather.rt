@@ -213,7 +213,10 @@ fn gather(s: &[u8], lo: u32) -> Gathered
         };
         let place = (at.0 + 1) as u32;
         note_child(&mut slots, lo, r.tag, r.level, place);
-        first = sooner(first, take_own(s, &mut slots, lo, r.tag, r.level + 1, place));
+        first = sooner(
+            first,
+            take_own(s, &mut slots, lo, r.tag, r.level + 1, place),
+        );
         deepest = deeper(deepest, r.level);
         at = r.next;
     }
