@@ -28,7 +28,7 @@ use Rattle.paragraph.proofs.ViewLaws.{side-beyond, side-deeper, side-low, side-
 use Rattle.paragraph.proofs.PartLaws.{Gathering, taken, nothing, gather-start, gather-beyond, gather-passed, gather-child, gather-none}
 use Rattle.section.specs.Parents.{header}
 use Rattle.section.specs.Windows.{between, firstIn}
-use Rattle.section.specs.Slots.{headOf, entry, partFound, partsOf, below, faulty, slotFault, slotsFault, Ended, more, noted, fresh, inWindow, notedIn, takenIn, ownFault, faultIn, deepestFrom}
+use Rattle.section.specs.Slots.{headOf, entry, partFound, partsOf, below, faulty, slotFault, slotsFault, Ended, more, noted, fresh, inWindow, notedIn, takenIn, ownFault, Ready, faultIn, deepestFrom}
 use Rattle.section.proofs.FirstLaws.{first-next, first-below}
 use Rattle.section.proofs.SlotLaws.{part-none, part-there, more-control, more-first, more-later, noted-empty, noted-low, noted-high, noted-there, in-low, in-high, in-window, noted-outside, noted-inside}
 
@@ -637,6 +637,7 @@ module _ (s : List ℕ) (at : ℕ) (r : Record) (d : Read s at r) (earlier : Lis
 pub record Gathers (s : List ℕ) (lo : ℕ) (slots : List ℕ) (at first deepest : ℕ) : Type 0 where
   pub small : length s ≤ limit
   pub inside : at ≤ length s
+  pub first-low : first ≤ length s
   pub long : length slots ≡ 96
   pub few : (i : ℕ) → getD slots i 0 ≤ at
   pub cap : ℕ
@@ -659,6 +660,7 @@ gathers-start s lo slots first f bs h e n z =
     record {
       small = h;
       inside = omega arith;
+      first-low = omega (arith, f);
       long = n;
       few = λ i. omega (arith, z i);
       cap = 0;
@@ -709,6 +711,7 @@ module _ {s : List ℕ} {lo : ℕ} {slots : List ℕ} {at first deepest : ℕ} {
       record {
         small = k .small;
         inside = omega (arith, d .stands .inside, d .next-is);
+        first-low = omega (arith, k .first-low, f);
         long = taken-long s lo at r d noted-slots noted-room;
         few = λ i. omega (arith, d .next-is, d .least, taken-few s lo at r d noted-slots noted-room (noted-few s lo at r ahead d slots (k .long) (k .few)) i);
         cap = r .level + 1;
@@ -725,20 +728,17 @@ module _ {s : List ℕ} {lo : ℕ} {slots : List ℕ} {at first deepest : ℕ} {
             ∙ ap (λ (m : ℕ). deepestFrom m (recordsIn (drop (r .next .0) s))) (ap (max deepest) (sym (d .level-is)) ∙ sym e);
       }
 
-  -- the same by the slots as the calls left them
-  pub gathers-taken : (one : List ℕ) → one ≡ noted-slots
-      → (length one ≡ 96) × (lo ≤ r .level + 1 → r .level + 1 < lo + 16 → Ended s one (6 * (r .level + 1 - lo)))
-  gathers-taken one e = rw e (noted-room, gathers-ended)
+  -- the same by the slots as the call left them
+  pub gathers-ready : Ready s lo slots (r .tag) (r .level) (at + 1)
+  gathers-ready = (noted-room, gathers-ended)
 
-  pub gathers-step : (one two : List ℕ) (own first′ deepest′ : ℕ) → one ≡ noted-slots → own ≡ ownFault s lo one (r .level + 1)
-      → two ≡ takenIn lo one (r .tag) (r .level + 1) (at + 1) → first′ ≡ min first own → deepest′ ≡ max deepest (r .level)
-      → Gathers s lo two (r .next .0) first′ deepest′
-  gathers-step one two own first′ deepest′ e o t f g =
-      subst (λ (l : List ℕ). Gathers s lo l (r .next .0) first′ deepest′) (sym (t ∙ ap (λ (l : List ℕ). takenIn lo l (r .tag) (r .level + 1) (at + 1)) e))
-      (gathers-next own first′ deepest′ (o ∙ ap (λ (l : List ℕ). ownFault s lo l (r .level + 1)) e) f g)
+  pub gathers-step : (two : List ℕ) (first′ deepest′ : ℕ) → first′ ≡ min first (ownFault s lo noted-slots (r .level + 1)) → two ≡ taken-slots
+      → deepest′ ≡ max deepest (r .level) → Gathers s lo two (r .next .0) first′ deepest′
+  gathers-step two first′ deepest′ f t g =
+      subst (λ (l : List ℕ). Gathers s lo l (r .next .0) first′ deepest′) (sym t) (gathers-next (ownFault s lo noted-slots (r .level + 1)) first′ deepest′ refl f g)
 
   -- its numbers are small
-  pub gathers-place : at + 1 < 4294967296
+  pub gathers-place : at < 16777216
   gathers-place = omega (arith, k .small, d .stands .inside, d .least)
 
 pub gathers-few : {s : List ℕ} {lo : ℕ} {slots : List ℕ} {at first deepest : ℕ} → Gathers s lo slots at first deepest → (i : ℕ) → getD slots i 0 < 4294967295

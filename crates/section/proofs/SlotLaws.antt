@@ -171,3 +171,24 @@ module _ (lo : ℕ) (slots : List ℕ) (tag n place : ℕ) where
 
     pub own-ended : (s : List ℕ) → (lo ≤ n → n < lo + 16 → Ended s slots (6 * (n - lo))) → lo ≤ n → m < 16 → Ended s slots (6 * m)
     own-ended s k h q = subst (λ (i : ℕ). Ended s slots (6 * i)) (sym is) (k h (omega arith))
+
+-- ---- a record outside the window
+
+module _ (lo : ℕ) (slots : List ℕ) (tag n place : ℕ) where
+  apart-noted : inWindow lo n ≡ false → inWindow lo (n + 1) ≡ false → slots ≡ takenIn lo (notedIn lo slots tag n place) tag (n + 1) place
+  apart-noted e f = noted-outside lo slots tag n place e ∙ taken-outside lo (notedIn lo slots tag n place) tag (n + 1) place f
+
+  apart-fault : inWindow lo (n + 1) ≡ false → (s : List ℕ) (first : ℕ) → first ≤ length s → first ≡ min first (ownFault s lo (notedIn lo slots tag n place) (n + 1))
+  apart-fault f s first h = let z = own-outside lo (notedIn lo slots tag n place) tag (n + 1) place s f in omega (arith, z)
+
+  pub above-noted : n + 1 < lo → slots ≡ takenIn lo (notedIn lo slots tag n place) tag (n + 1) place
+  above-noted h = apart-noted (in-low lo n (omega arith)) (in-low lo (n + 1) h)
+
+  pub above-fault : n + 1 < lo → (s : List ℕ) (first : ℕ) → first ≤ length s → first ≡ min first (ownFault s lo (notedIn lo slots tag n place) (n + 1))
+  above-fault h = apart-fault (in-low lo (n + 1) h)
+
+  pub below-noted : lo + 16 ≤ n → slots ≡ takenIn lo (notedIn lo slots tag n place) tag (n + 1) place
+  below-noted h = apart-noted (in-high lo n (n - lo) refl (omega arith) (omega arith)) (in-high lo (n + 1) (n + 1 - lo) refl (omega arith) (omega arith))
+
+  pub below-fault : lo + 16 ≤ n → (s : List ℕ) (first : ℕ) → first ≤ length s → first ≡ min first (ownFault s lo (notedIn lo slots tag n place) (n + 1))
+  below-fault h = apart-fault (in-high lo (n + 1) (n + 1 - lo) refl (omega arith) (omega arith))

@@ -1,8 +1,8 @@
 -- A mirror of the code that gathers the parts of the paragraphs of a window of levels, of which nothing has to be believed: what the pass promises is
--- `paragraphsFault` (Section), and `proofs/SlotLaws.antt` says that a slot holds the parts of its paragraph. A slot is six entries for the
+-- `paragraphsFault` (Section), and `proofs/GatherLaws.antt` says that a slot holds the parts of its paragraph. A slot is six entries for the
 -- tags 66 to 71 of one paragraph: where its header stands, and one more; where its text, shapes, layout and marks stand, and one more; and how
 -- many control headers it has. 0 is none. In a window from lo on, the slot of the paragraphs whose children are at level n begins at 6 * (n - lo).
-use Prim.Native.Nat.{ℕ, zero, suc, _+_, _-_, _*_, min, max}
+use Prim.Native.Nat.{ℕ, zero, suc, _+_, _-_, _*_, _≤_, _<_, min, max}
 use mathlib.Core.Path.{_≡_}
 use mathlib.Core.Bool.{Bool, true, false, cond, _&&_}
 use mathlib.Core.List.{List, [], _∷_}
@@ -105,6 +105,12 @@ takenIn lo slots tag below place =
 
 unfoldable pub ownFault : List ℕ → ℕ → List ℕ → ℕ → ℕ
 ownFault s lo slots below = cond (inWindow lo below) (slotFault s (headOf slots (6 * (below - lo)))) (length s)
+
+-- where a record was noted, the paragraph in its own slot has ended
+abbrev pub Ready : List ℕ → ℕ → List ℕ → ℕ → ℕ → ℕ → Type 0
+Ready s lo slots tag level place =
+    (length (notedIn lo slots tag level place) ≡ 96)
+    × (lo ≤ level + 1 → level + 1 < lo + 16 → Ended s (notedIn lo slots tag level place) (6 * (level + 1 - lo)))
 
 -- the place of the first paragraph at fault whose children's level is from lo up to and not including hi, and else the length of the stream
 unfoldable pub faultIn : ℕ → ℕ → List ℕ → ℕ

@@ -19,7 +19,7 @@ ghost use lib.ListN.{length, getD};
 ghost use Rattle.records.specs.Records.{limit};
 ghost use Rattle.records.specs.Reading.{readAll};
 ghost use Rattle.paragraph.specs.Stream.{recordsIn};
-ghost use Rattle.section.specs.Slots.{headOf, entry, partFound, partsOf, slotFault, slotsFault, Ended, more, noted, fresh, notedIn, takenIn, ownFault, deepestFrom, faultIn, Known};
+ghost use Rattle.section.specs.Slots.{headOf, entry, partFound, partsOf, slotFault, slotsFault, Ended, more, noted, fresh, notedIn, takenIn, ownFault, deepestFrom, faultIn, Known, Ready};
 
 // The record that an entry names.
 fn part_at(s: &[u8], entry: u32) -> Found
@@ -178,6 +178,33 @@ fn take_own(s: &[u8], slots: &mut [u32], lo: u32, tag: u32, below: u32, place: u
     fault
 }
 
+// A record that the window has to do with is noted with its parent's paragraph and takes its own slot; most records of a deep stream are not in
+// the window, and end at the first two tests.
+fn enter(
+    s: &[u8],
+    slots: &mut [u32],
+    lo: u32,
+    tag: u32,
+    level: u32,
+    at: Offset,
+    first: Blamed,
+) -> Blamed
+    requires { ⌜ (length (now slots) ≡ 96) × (lo ≤ 1024) × (level < 1024) × (at .0 < 16777216) × (first .at .0 ≤ length (now s)) ⌝ }
+    requires { ⌜ ((i : ℕ) → getD (now slots) i 0 < 4294967295) ⌝ }
+    requires { ⌜ Ready (now s) lo (now slots) tag level (at .0 + 1) ⌝ }
+    ensures { λ r. ⌜ (r .at .0 ≡ min (first .at .0) (ownFault (now (s .entry)) lo (notedIn lo (now (slots .entry)) tag level (at .0 + 1)) (level + 1))) × (Known (now (s .entry)) first → Known (now (s .entry)) r) × (now (slots .exit) ≡ takenIn lo (notedIn lo (now (slots .entry)) tag level (at .0 + 1)) tag (level + 1) (at .0 + 1)) ⌝ }
+{
+    if level + 1 < lo {
+        return first;
+    }
+    if lo + 16 <= level {
+        return first;
+    }
+    let place = (at.0 + 1) as u32;
+    note_child(slots, lo, tag, level, place);
+    sooner(first, take_own(s, slots, lo, tag, level + 1, place))
+}
+
 // The paragraphs that are in their slots where the stream ends.
 fn judge_slots(s: &[u8], slots: &[u32]) -> Blamed
     requires { ⌜ length (now slots) ≡ 96 ⌝ }
@@ -200,7 +227,7 @@ pub struct Gathered {
 }
 
 fn gather(s: &[u8], lo: u32) -> Gathered
-    requires { ⌜ (length (now s) ≤ limit) × (readAll (now s) .stop ≡ none) ⌝ }
+    requires { ⌜ (length (now s) ≤ limit) × (readAll (now s) .stop ≡ none) × (lo ≤ 1024) ⌝ }
     ensures { λ r. ⌜ (r .first .at .0 ≡ faultIn lo (lo + 16) (now (s .entry))) × Known (now (s .entry)) (r .first) × (r .deepest ≡ deepestFrom 0 (recordsIn (now (s .entry)))) ⌝ }
 {
     let mut slots = [0u32; 96];
@@ -211,12 +238,7 @@ fn gather(s: &[u8], lo: u32) -> Gathered
         let Ahead::Record(r) = record_at(s, at, 1023) else {
             break;
         };
-        let place = (at.0 + 1) as u32;
-        note_child(&mut slots, lo, r.tag, r.level, place);
-        first = sooner(
-            first,
-            take_own(s, &mut slots, lo, r.tag, r.level + 1, place),
-        );
+        first = enter(s, &mut slots, lo, r.tag, r.level, at, first);
         deepest = deeper(deepest, r.level);
         at = r.next;
     }

@@ -20,7 +20,7 @@ abbrev μ-loop : tie.MeasureT-loop
 μ-loop s g first₀ lo₀ first lo = 2048 - lo
 
 gather-requires : tie.Need-gather-requires Inv-loop μ-loop
-gather-requires c κs = search needs
+gather-requires c κs = (c .before .pre .0, c .before .pre .1, omega arith)
 
 -- how deep the records go
 low : (c : tie.After-gather Inv-loop μ-loop) → c .gather .result .deepest < 1024
@@ -35,7 +35,7 @@ add-if1 : tie.Need-add-if1 Inv-loop μ-loop
 add-if1 c = omega (arith, low (c .before .before .before))
 
 gather-requires-2 : tie.Need-gather-requires-2 Inv-loop μ-loop
-gather-requires-2 c κs = search needs
+gather-requires-2 c κs = let a = c .before .before .before .before .before .before in (a .pre .0, a .pre .1, omega (arith, low (c .before .before .before .before), c .if1 .taken))
 
 sooner-requires : tie.Need-sooner-requires Inv-loop μ-loop
 sooner-requires c κs = search needs

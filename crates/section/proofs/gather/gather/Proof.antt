@@ -1,7 +1,7 @@
 -- One pass finds what is first at fault in its window, and how deep the records go. Assumes nothing.
 use borrow.Author.Needs.{needs}
 use native.Mathlib.Omega.{arith}
-use Prim.Native.Nat.{ℕ, _+_, _-_, _<_}
+use Prim.Native.Nat.{ℕ, _-_}
 use mathlib.Core.Path.{_≡_, sym, _∙_}
 use lib.ListN.{length, length-replicate}
 use Rattle.numbers.proofs.LittleLaws.{slice-bytes}
@@ -9,17 +9,16 @@ use Rattle.records.specs.Reading.{aheadOf}
 use Rattle.records.specs.declared.header.Ahead.the-variants as N
 use Rattle.paragraph.proofs.StreamLaws.{Read, read-at, none-at}
 use Rattle.section.specs.Slots.{Known}
-use Rattle.section.proofs.GatherLaws.{Gathers, zeros, gathers-start, gathers-place, gathers-few, gathers-taken, gathers-step, gathers-last, gathers-first, gathers-deepest}
+use Rattle.section.proofs.GatherLaws.{Gathers, zeros, gathers-start, gathers-place, gathers-few, gathers-ready, gathers-step, gathers-last, gathers-first, gathers-deepest}
 use Rattle.section.proofs.gather.gather.Statement.{statement}
 use Rattle.section.proofs.gather.gather.Tie as tie
 use Rattle.section.proofs.gather.gather.Reads as reads
 use Rattle.section.proofs.gather.gather.Lts as lts
 use Rattle.records.proofs.record_at.Reads as record-at-reads
+use Rattle.section.proofs.gather.enter.Reads as enter-reads
 use Rattle.section.proofs.gather.judge_slots.Reads as judge-slots-reads
 use Rattle.section.proofs.gather.none_at_fault.Reads as none-at-fault-reads
-use Rattle.section.proofs.gather.note_child.Reads as note-child-reads
 use Rattle.section.proofs.gather.sooner.Reads as sooner-reads
-use Rattle.section.proofs.gather.take_own.Reads as take-own-reads
 use Rattle.section.proofs.parents.deeper.Reads as deeper-reads
 
 abbrev Inv-loop : tie.InvT-loop
@@ -50,41 +49,20 @@ stood c = sym (c .before .before .record-at .ensures) ∙ c .r .given .1
 its : (c : tie.After-r Inv-loop μ-loop) → Read (head c .before .before .before .args .s .now) (head c .loop .at .0) (c .r .given .0 .0)
 its c = read-at _ _ (slice-bytes (head c .before .before .before .args .s .now) (head c .before .before .shared-slice-known .given)) _ (stood c)
 
-small : (c : tie.After-r Inv-loop μ-loop) → head c .loop .at .0 + 1 < 4294967296
-small c = gathers-place (head c .loop .inv .0) (stood c) (its c)
+slice-aggregate-enter : tie.Need-slice-aggregate-enter Inv-loop μ-loop
+slice-aggregate-enter c = search needs
 
-add-place : tie.Need-add-place Inv-loop μ-loop
-add-place c = omega (arith, small (c .before .before))
-
-cast-place : tie.Need-cast-place Inv-loop μ-loop
-cast-place c = omega (arith, small (c .before .before))
-
-slice-aggregate-note-child : tie.Need-slice-aggregate-note-child Inv-loop μ-loop
-slice-aggregate-note-child c = search needs
-
-note-child-requires : tie.Need-note-child-requires Inv-loop μ-loop
-note-child-requires c κs = (c .before .before .before .before .before .before .loop .inv .0 .long, gathers-few (c .before .before .before .before .before .before .loop .inv .0))
-
-slice-aggregate-take-own : tie.Need-slice-aggregate-take-own Inv-loop μ-loop
-slice-aggregate-take-own c = search needs
-
-add-take-own : tie.Need-add-take-own Inv-loop μ-loop
-add-take-own c = omega (arith, its (c .before .before .before .before .before .before .before) .level-is, its (c .before .before .before .before .before .before .before) .stands .level-high)
-
-take-own-requires : tie.Need-take-own-requires Inv-loop μ-loop
-take-own-requires c κs = let d = c .before .before .before .before .before .before .before in gathers-taken (head d .loop .inv .0) (stood d) (its d) _ (c .before .before .before .note-child .ensures)
-
-sooner-requires : tie.Need-sooner-requires Inv-loop μ-loop
-sooner-requires c κs = search needs
+enter-requires : tie.Need-enter-requires Inv-loop μ-loop
+enter-requires c κs = let d = c .before .before in let k = head d .loop .inv .0 in ((k .long, head d .before .before .before .pre .2, omega (arith, its d .level-is, its d .stands .level-high), gathers-place k (stood d) (its d), k .first-low), (gathers-few k, gathers-ready k (stood d) (its d)))
 
 deeper-requires : tie.Need-deeper-requires Inv-loop μ-loop
 deeper-requires c κs = search needs
 
 loop-less : tie.Need-loop-less Inv-loop μ-loop
-loop-less c = let d = c .before .before .before .before .before .before .before .before .before .before .before .before in omega (arith, its d .next-is, its d .stands .inside, its d .least)
+loop-less c = let d = c .before .before .before .before .before .before in omega (arith, its d .next-is, its d .stands .inside, its d .least)
 
 loop-again : tie.Need-loop-again Inv-loop μ-loop
-loop-again c = let d = c .before .before .before .before .before .before .before .before .before .before .before .before in (gathers-step (head d .loop .inv .0) (stood d) (its d) _ _ _ _ _ (c .before .before .before .before .before .before .before .before .note-child .ensures) (c .before .before .before .before .take-own .ensures .0) (c .before .before .before .before .take-own .ensures .2) (c .before .before .sooner .ensures .0) (c .before .deeper .ensures), c .before .before .sooner .ensures .1 _ (head d .loop .inv .1) (c .before .before .before .before .take-own .ensures .1))
+loop-again c = let d = c .before .before .before .before .before .before in (gathers-step (head d .loop .inv .0) (stood d) (its d) _ _ _ (c .before .before .before .enter .ensures .0) (c .before .before .before .enter .ensures .2) (c .before .deeper .ensures), c .before .before .before .enter .ensures .1 (head d .loop .inv .1))
 
 slice-aggregate-judge-slots : tie.Need-slice-aggregate-judge-slots Inv-loop μ-loop
 slice-aggregate-judge-slots c = search needs
@@ -92,11 +70,11 @@ slice-aggregate-judge-slots c = search needs
 judge-slots-requires : tie.Need-judge-slots-requires Inv-loop μ-loop
 judge-slots-requires c κs = let l = c .before .before .before in (l .loop .inv .0 .long, gathers-last (l .loop .inv .0) (none-at _ _ _ (c .before .before .record-at .ensures) (c .before .match .keys2)))
 
-sooner-requires-2 : tie.Need-sooner-requires-2 Inv-loop μ-loop
-sooner-requires-2 c κs = search needs
+sooner-requires : tie.Need-sooner-requires Inv-loop μ-loop
+sooner-requires c κs = search needs
 
 returns : tie.Need-returns Inv-loop μ-loop
-returns c = let l = c .before .before .before .before .before in let e = none-at (l .before .before .before .args .s .now) (l .loop .at .0) _ (c .before .before .before .before .record-at .ensures) (c .before .before .before .match .keys2) in (c .sooner2 .ensures .0 ∙ gathers-first (l .loop .inv .0) e _ (c .before .judge-slots .ensures .0), c .sooner2 .ensures .1 _ (l .loop .inv .1) (c .before .judge-slots .ensures .1), gathers-deepest (l .loop .inv .0) e)
+returns c = let l = c .before .before .before .before .before in let e = none-at (l .before .before .before .args .s .now) (l .loop .at .0) _ (c .before .before .before .before .record-at .ensures) (c .before .before .before .match .keys2) in (c .sooner .ensures .0 ∙ gathers-first (l .loop .inv .0) e _ (c .before .judge-slots .ensures .0), c .sooner .ensures .1 _ (l .loop .inv .1) (c .before .judge-slots .ensures .1), gathers-deepest (l .loop .inv .0) e)
 
 pub gather-spec : {M : Type 1} → statement M
 gather-spec =
@@ -108,18 +86,12 @@ gather-spec =
     loop-holds
     record-at-requires
     enum-known-r
-    add-place
-    cast-place
-    slice-aggregate-note-child
-    note-child-requires
-    slice-aggregate-take-own
-    add-take-own
-    take-own-requires
-    sooner-requires
+    slice-aggregate-enter
+    enter-requires
     deeper-requires
     loop-less
     loop-again
     slice-aggregate-judge-slots
     judge-slots-requires
-    sooner-requires-2
+    sooner-requires
     returns)
