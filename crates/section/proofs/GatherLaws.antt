@@ -28,9 +28,9 @@ use Rattle.paragraph.proofs.ViewLaws.{side-beyond, side-deeper, side-low, side-
 use Rattle.paragraph.proofs.PartLaws.{Gathering, taken, nothing, gather-start, gather-beyond, gather-passed, gather-child, gather-none}
 use Rattle.section.specs.Parents.{header}
 use Rattle.section.specs.Windows.{between, firstIn}
-use Rattle.section.specs.Slots.{headOf, entry, partFound, partsOf, below, faulty, slotFault, slotsFault, Ended, more, noted, fresh, inWindow, notedIn, takenIn, ownFault, Ready, faultIn, deepestFrom}
+use Rattle.section.specs.Slots.{headOf, entry, partFound, partsOf, below, faulty, slotFault, slotsFault, Ended, more, noted, fresh, inWindow, notedIn, takenIn, ownFault, Ready, touches, faultIn, deepestFrom}
 use Rattle.section.proofs.FirstLaws.{first-next, first-below}
-use Rattle.section.proofs.SlotLaws.{part-none, part-there, more-control, more-first, more-later, noted-empty, noted-low, noted-high, noted-there, in-low, in-high, in-window, noted-outside, noted-inside}
+use Rattle.section.proofs.SlotLaws.{far-slots, far-fault, part-none, part-there, more-control, more-first, more-later, noted-empty, noted-low, noted-high, noted-there, in-low, in-high, in-window, noted-outside, noted-inside}
 
 -- ---- slots that have the same entries
 
@@ -736,6 +736,11 @@ module _ {s : List ℕ} {lo : ℕ} {slots : List ℕ} {at first deepest : ℕ} {
       → deepest′ ≡ max deepest (r .level) → Gathers s lo two (r .next .0) first′ deepest′
   gathers-step two first′ deepest′ f t g =
       subst (λ (l : List ℕ). Gathers s lo l (r .next .0) first′ deepest′) (sym t) (gathers-next (ownFault s lo noted-slots (r .level + 1)) first′ deepest′ refl f g)
+
+  -- a record outside the window
+  pub gathers-far : (deepest′ : ℕ) → touches lo (r .level) ≡ false → deepest′ ≡ max deepest (r .level) → Gathers s lo slots (r .next .0) first deepest′
+  gathers-far deepest′ e g =
+      gathers-step slots first deepest′ (far-fault lo (r .level) slots (r .tag) (at + 1) e s first (k .first-low)) (far-slots lo (r .level) slots (r .tag) (at + 1) e) g
 
   -- its numbers are small
   pub gathers-place : at < 16777216

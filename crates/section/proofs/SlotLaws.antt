@@ -2,8 +2,8 @@
 use Prim.Native.Nat.{ℕ, suc, _+_, _-_, _*_, _≤_, _<_, min}
 use native.Mathlib.Omega.{arith}
 use mathlib.Core.Path.{_≡_, refl, sym, ap, ap₂, _∙_, subst}
-use mathlib.Core.Logic.{inl, inr}
-use mathlib.Core.Bool.{true, false}
+use mathlib.Core.Logic.{_⊎_, inl, inr}
+use mathlib.Core.Bool.{Bool, true, false}
 use mathlib.Core.List.{List, []}
 use lib.ListN.{length, set, drop}
 use borrow.Author.Tests.{lt-ltb, le-ltb, le-leb, lt-leb, eq-eqb, ne-eqb}
@@ -13,6 +13,8 @@ use Rattle.records.specs.declared.header.Record.{Record}
 use Rattle.records.specs.declared.header.Ahead.{Ahead}
 use Rattle.records.specs.declared.header.Ahead.the-variants as N
 use Rattle.records.proofs.ReadingLaws.{NoRecord}
+use Rattle.text.proofs.Cases.{lt-or}
+use lib.Dec.{ltb}
 use Rattle.paragraph.specs.Stream.{recordsIn}
 use Rattle.paragraph.specs.Rules.{firstFault}
 use Rattle.paragraph.specs.Places.{partsIn}
@@ -23,7 +25,7 @@ use Rattle.paragraph.specs.declared.finding.Which.{Which}
 use Rattle.paragraph.specs.declared.finding.Finding.{Finding}
 use Rattle.paragraph.specs.declared.finding.Finding.the-variants as G
 use Rattle.paragraph.proofs.StreamLaws.{Read, none-left}
-use Rattle.section.specs.Slots.{headOf, entry, foundAhead, partFound, partsOf, slotFault, slotsFault, Ended, more, noted, fresh, inWindow, notedIn, takenIn, ownFault}
+use Rattle.section.specs.Slots.{headOf, entry, foundAhead, partFound, partsOf, slotFault, slotsFault, Ended, more, noted, fresh, inWindow, notedIn, takenIn, ownFault, touches}
 
 -- ---- what an entry names
 
@@ -174,21 +176,34 @@ module _ (lo : ℕ) (slots : List ℕ) (tag n place : ℕ) where
 
 -- ---- a record outside the window
 
-module _ (lo : ℕ) (slots : List ℕ) (tag n place : ℕ) where
-  apart-noted : inWindow lo n ≡ false → inWindow lo (n + 1) ≡ false → slots ≡ takenIn lo (notedIn lo slots tag n place) tag (n + 1) place
-  apart-noted e f = noted-outside lo slots tag n place e ∙ taken-outside lo (notedIn lo slots tag n place) tag (n + 1) place f
+module _ (lo n : ℕ) where
+  pub far-above : n + 1 < lo → false ≡ touches lo n
+  unfolding touches
+  far-above h = rw (lt-leb lo (n + 1) h)
 
-  apart-fault : inWindow lo (n + 1) ≡ false → (s : List ℕ) (first : ℕ) → first ≤ length s → first ≡ min first (ownFault s lo (notedIn lo slots tag n place) (n + 1))
-  apart-fault f s first h = let z = own-outside lo (notedIn lo slots tag n place) tag (n + 1) place s f in omega (arith, z)
+  pub near-by : lo ≤ n + 1 → ltb n (lo + 16) ≡ touches lo n
+  unfolding touches
+  near-by h = rw (le-leb lo (n + 1) h)
 
-  pub above-noted : n + 1 < lo → slots ≡ takenIn lo (notedIn lo slots tag n place) tag (n + 1) place
-  above-noted h = apart-noted (in-low lo n (omega arith)) (in-low lo (n + 1) h)
+  far-by : touches lo n ≡ false → (n + 1 < lo) ⊎ (lo + 16 ≤ n)
+  unfolding touches
+  far-by e = go (lt-or (n + 1) lo) (lt-or n (lo + 16))
+    where
+      go : (n + 1 < lo) ⊎ (lo ≤ n + 1) → (n < lo + 16) ⊎ (lo + 16 ≤ n) → (n + 1 < lo) ⊎ (lo + 16 ≤ n)
+      go (inl a) b = inl a
+      go (inr a) (inr b) = inr b
+      go (inr a) (inl b) = absurd (let z : _≡_ {A = Bool} true false = sym (rw (le-leb lo (n + 1) a, lt-ltb n (lo + 16) b)) ∙ e in let y : _≡_ {A = ℕ} 0 1 = cc in omega arith)
 
-  pub above-fault : n + 1 < lo → (s : List ℕ) (first : ℕ) → first ≤ length s → first ≡ min first (ownFault s lo (notedIn lo slots tag n place) (n + 1))
-  above-fault h = apart-fault (in-low lo (n + 1) h)
+  module _ (slots : List ℕ) (tag place : ℕ) (e : touches lo n ≡ false) where
+    outside : (inWindow lo n ≡ false) × (inWindow lo (n + 1) ≡ false)
+    outside = go (far-by e)
+      where
+        go : (n + 1 < lo) ⊎ (lo + 16 ≤ n) → (inWindow lo n ≡ false) × (inWindow lo (n + 1) ≡ false)
+        go (inl h) = (in-low lo n (omega arith), in-low lo (n + 1) h)
+        go (inr h) = (in-high lo n (n - lo) refl (omega arith) (omega arith), in-high lo (n + 1) (n + 1 - lo) refl (omega arith) (omega arith))
 
-  pub below-noted : lo + 16 ≤ n → slots ≡ takenIn lo (notedIn lo slots tag n place) tag (n + 1) place
-  below-noted h = apart-noted (in-high lo n (n - lo) refl (omega arith) (omega arith)) (in-high lo (n + 1) (n + 1 - lo) refl (omega arith) (omega arith))
+    pub far-slots : slots ≡ takenIn lo (notedIn lo slots tag n place) tag (n + 1) place
+    far-slots = noted-outside lo slots tag n place (outside .0) ∙ taken-outside lo (notedIn lo slots tag n place) tag (n + 1) place (outside .1)
 
-  pub below-fault : lo + 16 ≤ n → (s : List ℕ) (first : ℕ) → first ≤ length s → first ≡ min first (ownFault s lo (notedIn lo slots tag n place) (n + 1))
-  below-fault h = apart-fault (in-high lo (n + 1) (n + 1 - lo) refl (omega arith) (omega arith))
+    pub far-fault : (s : List ℕ) (first : ℕ) → first ≤ length s → first ≡ min first (ownFault s lo (notedIn lo slots tag n place) (n + 1))
+    far-fault s first h = let z = own-outside lo (notedIn lo slots tag n place) tag (n + 1) place s (outside .1) in omega (arith, z)

@@ -95,6 +95,10 @@ fresh slots b x = set (set (set (set (set (set slots b x) (b + 1) 0) (b + 2) 0) 
 abbrev pub inWindow : ℕ → ℕ → Bool
 inWindow lo n = leb lo n && ltb n (lo + 16)
 
+-- it has the slot of the parent of a record at a level, or the record's own
+unfoldable pub touches : ℕ → ℕ → Bool
+touches lo level = leb lo (level + 1) && ltb level (lo + 16)
+
 -- a record at a level with its parent's slot, and then with its own, that of children at level `below`
 unfoldable pub notedIn : ℕ → List ℕ → ℕ → ℕ → ℕ → List ℕ
 notedIn lo slots tag level place = cond (inWindow lo level) (noted slots (6 * (level - lo)) tag place) slots

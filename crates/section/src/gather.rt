@@ -1,5 +1,5 @@
 // The paragraphs of a window of 16 levels in one pass: where the parts of each stand is noted until it ends, and then it is judged. A section
-// of ten levels takes one pass, however its paragraphs are nested; one of 1,000 takes sixteen.
+// of ten levels takes one pass, however its paragraphs are nested; one of 1,000 takes sixty-three.
 use crate::parents::deeper;
 use judgement::head_fault;
 use numbers::wide;
@@ -19,7 +19,7 @@ ghost use lib.ListN.{length, getD};
 ghost use Rattle.records.specs.Records.{limit};
 ghost use Rattle.records.specs.Reading.{readAll};
 ghost use Rattle.paragraph.specs.Stream.{recordsIn};
-ghost use Rattle.section.specs.Slots.{headOf, entry, partFound, partsOf, slotFault, slotsFault, Ended, more, noted, fresh, notedIn, takenIn, ownFault, deepestFrom, faultIn, Known, Ready};
+ghost use Rattle.section.specs.Slots.{headOf, entry, partFound, partsOf, slotFault, slotsFault, Ended, more, noted, fresh, notedIn, takenIn, ownFault, deepestFrom, faultIn, Known, Ready, touches};
 
 // The record that an entry names.
 fn part_at(s: &[u8], entry: u32) -> Found
@@ -178,8 +178,18 @@ fn take_own(s: &[u8], slots: &mut [u32], lo: u32, tag: u32, below: u32, place: u
     fault
 }
 
-// A record that the window has to do with is noted with its parent's paragraph and takes its own slot; most records of a deep stream are not in
-// the window, and end at the first two tests.
+// The window has to do with a record at a level: it has the slot of the record's parent, or the record's own.
+fn near(lo: u32, level: u32) -> bool
+    requires { ⌜ (lo ≤ 1024) × (level < 1024) ⌝ }
+    ensures { λ r. ⌜ r ≡ touches lo level ⌝ }
+{
+    if level + 1 < lo {
+        return false;
+    }
+    level < lo + 16
+}
+
+// Such a record is noted with its parent's paragraph, and takes its own slot.
 fn enter(
     s: &[u8],
     slots: &mut [u32],
@@ -189,17 +199,11 @@ fn enter(
     at: Offset,
     first: Blamed,
 ) -> Blamed
-    requires { ⌜ (length (now slots) ≡ 96) × (lo ≤ 1024) × (level < 1024) × (at .0 < 16777216) × (first .at .0 ≤ length (now s)) ⌝ }
+    requires { ⌜ (length (now slots) ≡ 96) × (level < 1024) × (at .0 < 16777216) ⌝ }
     requires { ⌜ ((i : ℕ) → getD (now slots) i 0 < 4294967295) ⌝ }
     requires { ⌜ Ready (now s) lo (now slots) tag level (at .0 + 1) ⌝ }
     ensures { λ r. ⌜ (r .at .0 ≡ min (first .at .0) (ownFault (now (s .entry)) lo (notedIn lo (now (slots .entry)) tag level (at .0 + 1)) (level + 1))) × (Known (now (s .entry)) first → Known (now (s .entry)) r) × (now (slots .exit) ≡ takenIn lo (notedIn lo (now (slots .entry)) tag level (at .0 + 1)) tag (level + 1) (at .0 + 1)) ⌝ }
 {
-    if level + 1 < lo {
-        return first;
-    }
-    if lo + 16 <= level {
-        return first;
-    }
     let place = (at.0 + 1) as u32;
     note_child(slots, lo, tag, level, place);
     sooner(first, take_own(s, slots, lo, tag, level + 1, place))
@@ -238,7 +242,9 @@ fn gather(s: &[u8], lo: u32) -> Gathered
         let Ahead::Record(r) = record_at(s, at, 1023) else {
             break;
         };
-        first = enter(s, &mut slots, lo, r.tag, r.level, at, first);
+        if near(lo, r.level) {
+            first = enter(s, &mut slots, lo, r.tag, r.level, at, first);
+        }
         deepest = deeper(deepest, r.level);
         at = r.next;
     }

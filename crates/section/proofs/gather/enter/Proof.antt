@@ -1,6 +1,5 @@
--- A record enters the window's slots, or stands outside the window. Assumes nothing.
+-- A record enters the slots of its window. Assumes nothing.
 use mathlib.Core.Path.{_∙_}
-use Rattle.section.proofs.SlotLaws.{above-fault, above-noted, below-fault, below-noted}
 use borrow.Author.Needs.{needs}
 use Rattle.section.proofs.gather.enter.Statement.{statement}
 use Rattle.section.proofs.gather.enter.Tie as tie
@@ -9,18 +8,6 @@ use Rattle.section.proofs.gather.enter.Lts as lts
 use Rattle.section.proofs.gather.note_child.Reads as note-child-reads
 use Rattle.section.proofs.gather.sooner.Reads as sooner-reads
 use Rattle.section.proofs.gather.take_own.Reads as take-own-reads
-
-add-if1 : tie.Need-add-if1
-add-if1 c = search needs
-
-returns : tie.Need-returns
-returns c = let a = c .before .before .before in (above-fault _ _ (a .args .tag) _ _ (c .if1 .taken) _ _ (a .pre .0 .4), λ k. k, above-noted _ _ _ _ _ (c .if1 .taken))
-
-add-if2 : tie.Need-add-if2
-add-if2 c = search needs
-
-returns-2 : tie.Need-returns-2
-returns-2 c = let a = c .before .before .before .before in (below-fault _ _ (a .args .tag) _ _ (c .if2 .taken) _ _ (a .pre .0 .4), λ k. k, below-noted _ _ _ _ _ (c .if2 .taken))
 
 add-place : tie.Need-add-place
 add-place c = search needs
@@ -35,7 +22,7 @@ add-take-own : tie.Need-add-take-own
 add-take-own c = search needs
 
 take-own-requires : tie.Need-take-own-requires
-take-own-requires c κs = let a = c .before .before .before .before .before .before .before .before .before .before in rw (c .before .before .before .note-child .ensures) (a .pre .1 .1)
+take-own-requires c κs = let a = c .before .before .before .before .before .before .before .before in rw (c .before .before .before .note-child .ensures) (a .pre .1 .1)
 
 sooner-requires : tie.Need-sooner-requires
 sooner-requires c κs = search needs
@@ -43,17 +30,13 @@ sooner-requires c κs = search needs
 same-length : tie.Need-same-length
 same-length c = search needs
 
-returns-3 : tie.Need-returns-3
-returns-3 c = let n = c .before .before .before .before .before .before .before .note-child .ensures in (c .sooner .ensures .0 ∙ rw (c .before .before .before .take-own .ensures .0, n), λ k. c .sooner .ensures .1 _ k (c .before .before .before .take-own .ensures .1), c .before .before .before .take-own .ensures .2 ∙ rw n)
+returns : tie.Need-returns
+returns c = let n = c .before .before .before .before .before .before .before .note-child .ensures in (c .sooner .ensures .0 ∙ rw (c .before .before .before .take-own .ensures .0, n), λ k. c .sooner .ensures .1 _ k (c .before .before .before .take-own .ensures .1), c .before .before .before .take-own .ensures .2 ∙ rw n)
 
 pub enter-spec : {M : Type 1} → statement M
 enter-spec =
     tie.close
     (tie.spec
-    add-if1
-    returns
-    add-if2
-    returns-2
     add-place
     cast-place
     note-child-requires
@@ -61,4 +44,4 @@ enter-spec =
     take-own-requires
     sooner-requires
     same-length
-    returns-3)
+    returns)

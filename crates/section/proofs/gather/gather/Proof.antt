@@ -1,15 +1,16 @@
 -- One pass finds what is first at fault in its window, and how deep the records go. Assumes nothing.
 use borrow.Author.Needs.{needs}
 use native.Mathlib.Omega.{arith}
-use Prim.Native.Nat.{ℕ, _-_}
+use Prim.Native.Nat.{ℕ, _-_, _<_}
 use mathlib.Core.Path.{_≡_, sym, _∙_}
+use mathlib.Core.Logic.{⊎-elim}
 use lib.ListN.{length, length-replicate}
 use Rattle.numbers.proofs.LittleLaws.{slice-bytes}
 use Rattle.records.specs.Reading.{aheadOf}
 use Rattle.records.specs.declared.header.Ahead.the-variants as N
 use Rattle.paragraph.proofs.StreamLaws.{Read, read-at, none-at}
 use Rattle.section.specs.Slots.{Known}
-use Rattle.section.proofs.GatherLaws.{Gathers, zeros, gathers-start, gathers-place, gathers-few, gathers-ready, gathers-step, gathers-last, gathers-first, gathers-deepest}
+use Rattle.section.proofs.GatherLaws.{Gathers, zeros, gathers-start, gathers-place, gathers-few, gathers-ready, gathers-step, gathers-far, gathers-last, gathers-first, gathers-deepest}
 use Rattle.section.proofs.gather.gather.Statement.{statement}
 use Rattle.section.proofs.gather.gather.Tie as tie
 use Rattle.section.proofs.gather.gather.Reads as reads
@@ -17,6 +18,7 @@ use Rattle.section.proofs.gather.gather.Lts as lts
 use Rattle.records.proofs.record_at.Reads as record-at-reads
 use Rattle.section.proofs.gather.enter.Reads as enter-reads
 use Rattle.section.proofs.gather.judge_slots.Reads as judge-slots-reads
+use Rattle.section.proofs.gather.near.Reads as near-reads
 use Rattle.section.proofs.gather.none_at_fault.Reads as none-at-fault-reads
 use Rattle.section.proofs.gather.sooner.Reads as sooner-reads
 use Rattle.section.proofs.parents.deeper.Reads as deeper-reads
@@ -49,20 +51,30 @@ stood c = sym (c .before .before .record-at .ensures) ∙ c .r .given .1
 its : (c : tie.After-r Inv-loop μ-loop) → Read (head c .before .before .before .args .s .now) (head c .loop .at .0) (c .r .given .0 .0)
 its c = read-at _ _ (slice-bytes (head c .before .before .before .args .s .now) (head c .before .before .shared-slice-known .given)) _ (stood c)
 
+low : (c : tie.After-r Inv-loop μ-loop) → c .r .given .0 .0 .level < 1024
+low c = omega (arith, its c .level-is, its c .stands .level-high)
+
+near-requires : tie.Need-near-requires Inv-loop μ-loop
+near-requires c κs = (head (c .before) .before .before .before .pre .2, low (c .before))
+
 slice-aggregate-enter : tie.Need-slice-aggregate-enter Inv-loop μ-loop
 slice-aggregate-enter c = search needs
 
 enter-requires : tie.Need-enter-requires Inv-loop μ-loop
-enter-requires c κs = let d = c .before .before in let k = head d .loop .inv .0 in ((k .long, head d .before .before .before .pre .2, omega (arith, its d .level-is, its d .stands .level-high), gathers-place k (stood d) (its d), k .first-low), (gathers-few k, gathers-ready k (stood d) (its d)))
+enter-requires c κs = let d = c .before .before .before .before in let k = head d .loop .inv .0 in ((k .long, low d, gathers-place k (stood d) (its d)), (gathers-few k, gathers-ready k (stood d) (its d)))
 
 deeper-requires : tie.Need-deeper-requires Inv-loop μ-loop
 deeper-requires c κs = search needs
 
 loop-less : tie.Need-loop-less Inv-loop μ-loop
-loop-less c = let d = c .before .before .before .before .before .before in omega (arith, its d .next-is, its d .stands .inside, its d .least)
+loop-less c = let d = c .before .before .before .before .before in omega (arith, its d .next-is, its d .stands .inside, its d .least)
 
 loop-again : tie.Need-loop-again Inv-loop μ-loop
-loop-again c = let d = c .before .before .before .before .before .before in (gathers-step (head d .loop .inv .0) (stood d) (its d) _ _ _ (c .before .before .before .enter .ensures .0) (c .before .before .before .enter .ensures .2) (c .before .deeper .ensures), c .before .before .before .enter .ensures .1 (head d .loop .inv .1))
+loop-again c =
+    let d = c .before .before .before .before .before in
+    let k = head d .loop .inv in
+    ⊎-elim (λ w. rw (w .4, w .5) (gathers-step (k .0) (stood d) (its d) _ _ _ (w .2 .ensures .0) (w .2 .ensures .2) (c .before .deeper .ensures), w .2 .ensures .1 (k .1)))
+    (λ w. rw (w .1, w .2) (gathers-far (k .0) (stood d) (its d) _ (sym (c .before .before .before .near .ensures) ∙ w .0 .left) (c .before .deeper .ensures), k .1)) (c .before .before .if1 .came)
 
 slice-aggregate-judge-slots : tie.Need-slice-aggregate-judge-slots Inv-loop μ-loop
 slice-aggregate-judge-slots c = search needs
@@ -86,6 +98,7 @@ gather-spec =
     loop-holds
     record-at-requires
     enum-known-r
+    near-requires
     slice-aggregate-enter
     enter-requires
     deeper-requires
