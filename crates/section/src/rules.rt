@@ -1,6 +1,6 @@
-// What check and the section read answer. Rule 9 and the paragraphs follow read's own pass over the headers, each with one pass for every 64 levels
-// that the records reach. Each text is walked once, and once more where it has extended controls. Only the control header of a field (15) is looked
-// for below its paragraph's header, so that nested paragraphs before it are passed once more.
+// What check and the section read answer. Rule 9 and the paragraphs follow read's own pass over the headers, with one pass for every 64 levels that
+// the records reach and one for every 16. Each text is walked once, and once more where it has extended controls. Only the control header of a field
+// (15) is looked for below its paragraph's header, so that nested paragraphs before it are passed once more.
 use crate::gather::first_at_fault;
 use crate::parents::Stray;
 use crate::parents::find_stray;

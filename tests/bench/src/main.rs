@@ -112,10 +112,13 @@ fn bench_host() {
     }
 }
 
-/// So many levels are judged in one pass.
-const WINDOW: u32 = 64;
+/// So many levels are judged in one pass: for rule 9, and for the paragraphs.
+const WINDOWS: [u32; 2] = [64, 16];
 
-/// What the levels of chains cost check, in bare passes, beside as many records at level 0.
+/// The passes of check where all stands at level 0: reading, rule 9, the paragraphs.
+const PASSES: f64 = 3.0;
+
+/// What the levels of chains cost check beside as many records at level 0: in bare passes, and in passes of check's own.
 fn bench_depth(body: usize) {
     let deep = shape::small(LIMIT, body, shape::CHAINS);
     let flat = shape::small(LIMIT, body, shape::FLAT);
@@ -123,12 +126,12 @@ fn bench_depth(body: usize) {
     let [took, at_0, bare] = medians([&mut check(&deep), &mut check(&flat), &mut || {
         bare_pass(black_box(&deep))
     }]);
-    let cost = (took - at_0) / bare;
-    let allowed = f64::from(shape::CHAIN) / f64::from(WINDOW) + 1.0;
+    let [cost, own] = [bare, at_0 / PASSES].map(|pass| (took - at_0) / pass);
+    let [nine, parts] = WINDOWS.map(|levels| f64::from(shape::CHAIN) / f64::from(levels) + 1.0);
     println!(
         "check, chains of {} levels, bodies of {body} bytes, {}: {took:.3} ms, at level 0 {at_0:.3} ms, \
-         bare pass {bare:.3} ms; the deeper levels cost {cost:.2} bare passes, where windows of {WINDOW} levels \
-         are {allowed:.1}",
+         bare pass {bare:.3} ms; the deeper levels cost {cost:.1} bare passes, or {own:.1} of check's own passes over \
+         the headers, where {nine:.1} are allowed for rule 9 and {parts:.1} for the paragraphs",
         shape::CHAIN,
         size(deep.len())
     );

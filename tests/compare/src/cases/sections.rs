@@ -115,8 +115,8 @@ pub fn hostile(random: &mut Random, length: usize) -> Vec<u8> {
     stream
 }
 
-/// Check goes over the records below a paragraph for each paragraph above them, so hostile nesting is kept short here;
-/// the benchmark measures it (docs/DECISIONS.md has the bound).
+/// The search for a field goes over the records below a paragraph for each paragraph above them, so hostile nesting is
+/// kept short here; the benchmark measures check of more of it (docs/DECISIONS.md has the bound).
 pub const HOSTILE: usize = 100_000;
 
 /// The number of kinds of long sections.
