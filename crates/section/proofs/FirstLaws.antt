@@ -1,10 +1,11 @@
 -- What is found first in a window of depths, and windows that are joined. Assumes nothing.
 use Prim.Native.Nat.{ℕ, _+_, min, _≤_, _<_}
 use native.Mathlib.Omega.{arith}
-use mathlib.Core.Path.{_≡_, refl, ap, _∙_}
+use mathlib.Core.Path.{_≡_, refl, sym, ap, _∙_}
 use mathlib.Core.Logic.{_⊎_, inl, inr}
 use mathlib.Core.Bool.{Bool, true, false, cond, _&&_}
 use mathlib.Core.List.{List, [], _∷_}
+use lib.Dec.{ltb}
 use borrow.Author.Tests.{lt-ltb, le-ltb, le-leb, lt-leb}
 use Rattle.records.specs.Records.{Rec, size}
 use Rattle.text.proofs.Cases.{lt-or}
@@ -19,6 +20,21 @@ between-low lo hi d a = rw (lt-leb lo d a)
 
 pub between-high : (lo hi d : ℕ) → lo ≤ d → hi ≤ d → between lo hi d ≡ false
 between-high lo hi d a b = rw (le-leb lo d a, le-ltb d hi b)
+
+pub between-out : (lo hi d : ℕ) → between lo hi d ≡ false → (d < lo) ⊎ (hi ≤ d)
+between-out lo hi d e = go (lt-or d lo) (lt-or d hi)
+  where
+    go : (d < lo) ⊎ (lo ≤ d) → (d < hi) ⊎ (hi ≤ d) → (d < lo) ⊎ (hi ≤ d)
+    go (inl a) b = inl a
+    go (inr a) (inr b) = inr b
+    go (inr a) (inl b) = absurd (let z : _≡_ {A = Bool} true false = sym (between-in lo hi d a b) ∙ e in let y : _≡_ {A = ℕ} 0 1 = cc in omega arith)
+
+-- the tests of the code
+pub below-low : (lo hi d : ℕ) → d < lo → false ≡ between lo hi d
+below-low lo hi d a = sym (between-low lo hi d a)
+
+pub below-hi : (lo hi d : ℕ) → lo ≤ d → ltb d hi ≡ between lo hi d
+below-hi lo hi d a = rw (le-leb lo d a)
 
 module _ (depth : Rec → ℕ) (test : List Rec → Rec → List Rec → Bool) (lo hi e : ℕ) where
   pub first-next : (at : ℕ) (earlier : List Rec) (r : Rec) (rs : List Rec)

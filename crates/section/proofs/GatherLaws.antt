@@ -28,9 +28,9 @@ use Rattle.paragraph.proofs.ViewLaws.{side-beyond, side-deeper, side-low, side-
 use Rattle.paragraph.proofs.PartLaws.{Gathering, taken, nothing, gather-start, gather-beyond, gather-passed, gather-child, gather-none}
 use Rattle.section.specs.Parents.{header}
 use Rattle.section.specs.Windows.{between, firstIn}
-use Rattle.section.specs.Slots.{headOf, entry, partFound, partsOf, below, faulty, slotFault, slotsFault, Ended, more, noted, fresh, inWindow, notedIn, takenIn, ownFault, Ready, touches, faultIn, deepestFrom}
-use Rattle.section.proofs.FirstLaws.{first-next, first-below}
-use Rattle.section.proofs.SlotLaws.{far-slots, far-fault, part-none, part-there, more-control, more-first, more-later, noted-empty, noted-low, noted-high, noted-there, in-low, in-high, in-window, noted-outside, noted-inside}
+use Rattle.section.specs.Slots.{headOf, entry, partFound, partsOf, below, faulty, slotFault, slotsFault, Ended, more, noted, fresh, notedIn, takenIn, ownFault, Ready, faultIn, deepestFrom}
+use Rattle.section.proofs.FirstLaws.{between-in, between-low, between-high, first-next, first-below}
+use Rattle.section.proofs.SlotLaws.{far-slots, far-fault, part-none, part-there, more-control, more-first, more-later, noted-empty, noted-low, noted-high, noted-there, noted-outside, noted-inside}
 
 -- ---- slots that have the same entries
 
@@ -243,10 +243,10 @@ module _ (s : List ℕ) (lo at : ℕ) (r : Record) (ahead : aheadOf 1023 s at �
   windowed C f g = go (lt-or (r .level) lo) (lt-or (r .level) (lo + 16))
     where
       go : (r .level < lo) ⊎ (lo ≤ r .level) → (r .level < lo + 16) ⊎ (lo + 16 ≤ r .level) → C behind
-      go (inl a) b = subst C (noted-outside lo slots (r .tag) (r .level) (at + 1) (in-low lo (r .level) a)) f
-      go (inr a) (inr b) = subst C (noted-outside lo slots (r .tag) (r .level) (at + 1) (in-high lo (r .level) (r .level - lo) refl a (omega arith))) f
+      go (inl a) b = subst C (noted-outside lo slots (r .tag) (r .level) (at + 1) (between-low lo (lo + 16) (r .level) a)) f
+      go (inr a) (inr b) = subst C (noted-outside lo slots (r .tag) (r .level) (at + 1) (between-high lo (lo + 16) (r .level) a b)) f
       go (inr a) (inl b) =
-          subst C (noted-inside lo slots (r .tag) (r .level) (at + 1) (r .level - lo) refl (in-window lo (r .level) (r .level - lo) refl a (omega arith))) (g a b)
+          subst C (noted-inside lo slots (r .tag) (r .level) (at + 1) (r .level - lo) refl (between-in lo (lo + 16) (r .level) a b)) (g a b)
 
   -- the slots of other levels, the header's entry of each, and how many entries there are
   noted-same : (i : ℕ) → (lo + i ≡ r .level → ⊥) → Same slots behind (6 * i)
@@ -342,7 +342,7 @@ module _ (s : List ℕ) (lo at : ℕ) (r : Record) (ahead : aheadOf 1023 s at �
           let z : r .level - lo ≡ i = omega arith in
           let a : lo ≤ r .level = omega arith in
           let b : r .level < lo + 16 = omega arith in
-          subst (λ (x : List ℕ). Holds s lo (r .level) x i (r .next .0)) (noted-inside lo slots (r .tag) (r .level) (at + 1) (r .level - lo) refl (in-window lo (r .level) (r .level - lo) refl a (omega arith)))
+          subst (λ (x : List ℕ). Holds s lo (r .level) x i (r .next .0)) (noted-inside lo slots (r .tag) (r .level) (at + 1) (r .level - lo) refl (between-in lo (lo + 16) (r .level) a b))
           (subst (λ (j : ℕ). Holds s lo (r .level) there j (r .next .0)) z (parents-slot cap l a b (subst (λ (j : ℕ). Holds s lo cap slots j at) (sym z) h)))
       go (inr e) (inl z) = inl (noted-heads i ∙ z)
       go (inr e) (inr k) = inr (kept-same k behind (r .level) (r .next .0) (noted-same i e) (moved (lo + i) cap _ _ e l (k .parts)))
@@ -464,10 +464,10 @@ module _ (s : List ℕ) (lo at : ℕ) (r : Record) (d : Read s at r) (slots : Li
   taking C f g = go (lt-or (r .level + 1) lo) (lt-or (r .level + 1) (lo + 16))
     where
       go : (r .level + 1 < lo) ⊎ (lo ≤ r .level + 1) → (r .level + 1 < lo + 16) ⊎ (lo + 16 ≤ r .level + 1)
-          → C (cond (inWindow lo (r .level + 1)) (fresh slots (6 * own-slot) taken-as) slots)
-      go (inl a) b = rw (in-low lo (r .level + 1) a) (f (inl a))
-      go (inr a) (inr b) = rw (in-high lo (r .level + 1) own-slot refl a (omega arith)) (f (inr b))
-      go (inr a) (inl b) = rw (in-window lo (r .level + 1) own-slot refl a (omega arith)) (g a b)
+          → C (cond (between lo (lo + 16) (r .level + 1)) (fresh slots (6 * own-slot) taken-as) slots)
+      go (inl a) b = rw (between-low lo (lo + 16) (r .level + 1) a) (f (inl a))
+      go (inr a) (inr b) = rw (between-high lo (lo + 16) (r .level + 1) a b) (f (inr b))
+      go (inr a) (inl b) = rw (between-in lo (lo + 16) (r .level + 1) a b) (g a b)
 
   pub taken-long : length after ≡ 96
   taken-long = taking (λ l. length l ≡ 96) (λ _. long) (λ a b. fresh-long slots (6 * own-slot) taken-as (omega (arith, long)) ∙ long)
@@ -529,7 +529,7 @@ module _ (s : List ℕ) (lo at : ℕ) (r : Record) (d : Read s at r) (slots : Li
           let z : own-slot ≡ i = omega arith in
           let a : lo ≤ r .level + 1 = omega arith in
           let b : r .level + 1 < lo + 16 = omega arith in
-          rw (in-window lo (r .level + 1) own-slot refl a (omega arith))
+          rw (between-in lo (lo + 16) (r .level + 1) a b)
           (subst (λ (j : ℕ). Holds s lo (r .level + 1) (fresh slots (6 * own-slot) taken-as) j (r .next .0)) z (own-taken a b (eq-or (r .tag) 66)))
       go (inr e) (inl z) = inl (head-same slots after (6 * i) (taken-same i e) ∙ z)
       go (inr e) (inr k) = inr (kept-same k after (r .level + 1) (r .next .0) (taken-same i e) (one-more-level (lo + i) _ _ (r .next .0) e (k .parts)))
@@ -608,15 +608,15 @@ module _ (s : List ℕ) (at : ℕ) (r : Record) (d : Read s at r) (earlier : Lis
     abbrev next-one : ℕ
     next-one = cond (between lo (lo + 16) (below (d .rec)) && faulty earlier (d .rec) left) at (length s)
 
-    outside : inWindow lo (r .level + 1) ≡ false → min (ownFault s lo slots (r .level + 1)) (slotsFault s own-new 16) ≡ min next-one (slotsFault s slots 16)
+    outside : between lo (lo + 16) (r .level + 1) ≡ false → min (ownFault s lo slots (r .level + 1)) (slotsFault s own-new 16) ≡ min next-one (slotsFault s slots 16)
     unfolding ownFault takenIn
-    outside e = let w : inWindow lo (d .rec .level + 1) ≡ false = ap (λ (n : ℕ). inWindow lo (n + 1)) (sym (d .level-is)) ∙ e in rw (e, w)
+    outside e = let w : between lo (lo + 16) (d .rec .level + 1) ≡ false = ap (λ (n : ℕ). between lo (lo + 16) (n + 1)) (sym (d .level-is)) ∙ e in rw (e, w)
 
-    inside-by : (lo ≤ r .level + 1) → r .level + 1 < lo + 16 → inWindow lo (r .level + 1) ≡ true
+    inside-by : (lo ≤ r .level + 1) → r .level + 1 < lo + 16 → between lo (lo + 16) (r .level + 1) ≡ true
         → min (ownFault s lo slots (r .level + 1)) (slotsFault s own-new 16) ≡ min next-one (slotsFault s slots 16)
     unfolding ownFault takenIn
     inside-by a b e =
-        let w : inWindow lo (d .rec .level + 1) ≡ true = ap (λ (n : ℕ). inWindow lo (n + 1)) (sym (d .level-is)) ∙ e in
+        let w : between lo (lo + 16) (d .rec .level + 1) ≡ true = ap (λ (n : ℕ). between lo (lo + 16) (n + 1)) (sym (d .level-is)) ∙ e in
         let j = r .level + 1 - lo in
         let x = cond (eqb (r .tag) 66) (at + 1) 0 in
         let k = slots-swap s slots (fresh slots (6 * j) x) j 16 (omega arith) (λ i h. head-same slots (fresh slots (6 * j) x) (6 * i) (fresh-apart slots j x i h)) in
@@ -628,9 +628,9 @@ module _ (s : List ℕ) (at : ℕ) (r : Record) (d : Read s at r) (earlier : Lis
       where
         go : (r .level + 1 < lo) ⊎ (lo ≤ r .level + 1) → (r .level + 1 < lo + 16) ⊎ (lo + 16 ≤ r .level + 1)
             → min (ownFault s lo slots (r .level + 1)) (slotsFault s own-new 16) ≡ min next-one (slotsFault s slots 16)
-        go (inl a) b = outside (in-low lo (r .level + 1) a)
-        go (inr a) (inr b) = outside (in-high lo (r .level + 1) (r .level + 1 - lo) refl a (omega arith))
-        go (inr a) (inl b) = inside-by a b (in-window lo (r .level + 1) (r .level + 1 - lo) refl a (omega arith))
+        go (inl a) b = outside (between-low lo (lo + 16) (r .level + 1) a)
+        go (inr a) (inr b) = outside (between-high lo (lo + 16) (r .level + 1) a b)
+        go (inr a) (inl b) = inside-by a b (between-in lo (lo + 16) (r .level + 1) a b)
 
 -- ---- where the pass stands at its loop's head
 
@@ -738,7 +738,7 @@ module _ {s : List ℕ} {lo : ℕ} {slots : List ℕ} {at first deepest : ℕ} {
       subst (λ (l : List ℕ). Gathers s lo l (r .next .0) first′ deepest′) (sym t) (gathers-next (ownFault s lo noted-slots (r .level + 1)) first′ deepest′ refl f g)
 
   -- a record outside the window
-  pub gathers-far : (deepest′ : ℕ) → touches lo (r .level) ≡ false → deepest′ ≡ max deepest (r .level) → Gathers s lo slots (r .next .0) first deepest′
+  pub gathers-far : (deepest′ : ℕ) → between lo (lo + 16 + 1) (r .level + 1) ≡ false → deepest′ ≡ max deepest (r .level) → Gathers s lo slots (r .next .0) first deepest′
   gathers-far deepest′ e g =
       gathers-step slots first deepest′ (far-fault lo (r .level) slots (r .tag) (at + 1) e s first (k .first-low)) (far-slots lo (r .level) slots (r .tag) (at + 1) e) g
 

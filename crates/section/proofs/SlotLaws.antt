@@ -25,7 +25,9 @@ use Rattle.paragraph.specs.declared.finding.Which.{Which}
 use Rattle.paragraph.specs.declared.finding.Finding.{Finding}
 use Rattle.paragraph.specs.declared.finding.Finding.the-variants as G
 use Rattle.paragraph.proofs.StreamLaws.{Read, none-left}
-use Rattle.section.specs.Slots.{headOf, entry, foundAhead, partFound, partsOf, slotFault, slotsFault, Ended, more, noted, fresh, inWindow, notedIn, takenIn, ownFault, touches}
+use Rattle.section.specs.Windows.{between}
+use Rattle.section.specs.Slots.{headOf, entry, foundAhead, partFound, partsOf, slotFault, slotsFault, Ended, more, noted, fresh, notedIn, takenIn, ownFault}
+use Rattle.section.proofs.FirstLaws.{between-in, between-low, between-high, between-out}
 
 -- ---- what an entry names
 
@@ -130,31 +132,27 @@ slots-all s slots i first e h k = let z : i ≡ 16 = omega arith in e ∙ ap (sl
 
 -- ---- in a window, whose slot for level n has the index m
 
-module _ (lo n : ℕ) where
-  pub in-low : n < lo → inWindow lo n ≡ false
-  in-low h = rw (lt-leb lo n h)
+module _ (lo n m : ℕ) (is : m ≡ n - lo) (h : lo ≤ n) where
+  pub in-high : 16 ≤ m → between lo (lo + 16) n ≡ false
+  in-high q = between-high lo (lo + 16) n h (omega arith)
 
-  module _ (m : ℕ) (is : m ≡ n - lo) (h : lo ≤ n) where
-    pub in-high : 16 ≤ m → inWindow lo n ≡ false
-    in-high q = rw (le-leb lo n h, le-ltb n (lo + 16) (omega arith))
-
-    pub in-window : m < 16 → inWindow lo n ≡ true
-    in-window q = rw (le-leb lo n h, lt-ltb n (lo + 16) (omega arith))
+  pub in-window : m < 16 → between lo (lo + 16) n ≡ true
+  in-window q = between-in lo (lo + 16) n h (omega arith)
 
 module _ (lo : ℕ) (slots : List ℕ) (tag n place : ℕ) where
-  pub noted-outside : inWindow lo n ≡ false → slots ≡ notedIn lo slots tag n place
+  pub noted-outside : between lo (lo + 16) n ≡ false → slots ≡ notedIn lo slots tag n place
   unfolding notedIn
   noted-outside e = rw e
 
-  pub taken-outside : inWindow lo n ≡ false → slots ≡ takenIn lo slots tag n place
+  pub taken-outside : between lo (lo + 16) n ≡ false → slots ≡ takenIn lo slots tag n place
   unfolding takenIn
   taken-outside e = rw e
 
-  pub own-outside : (s : List ℕ) → inWindow lo n ≡ false → length s ≡ ownFault s lo slots n
+  pub own-outside : (s : List ℕ) → between lo (lo + 16) n ≡ false → length s ≡ ownFault s lo slots n
   unfolding ownFault
   own-outside s e = rw e
 
-  module _ (m : ℕ) (is : m ≡ n - lo) (e : inWindow lo n ≡ true) where
+  module _ (m : ℕ) (is : m ≡ n - lo) (e : between lo (lo + 16) n ≡ true) where
     pub noted-inside : noted slots (6 * m) tag place ≡ notedIn lo slots tag n place
     unfolding notedIn
     noted-inside = rw (e, is)
@@ -177,30 +175,13 @@ module _ (lo : ℕ) (slots : List ℕ) (tag n place : ℕ) where
 -- ---- a record outside the window
 
 module _ (lo n : ℕ) where
-  pub far-above : n + 1 < lo → false ≡ touches lo n
-  unfolding touches
-  far-above h = rw (lt-leb lo (n + 1) h)
-
-  pub near-by : lo ≤ n + 1 → ltb n (lo + 16) ≡ touches lo n
-  unfolding touches
-  near-by h = rw (le-leb lo (n + 1) h)
-
-  far-by : touches lo n ≡ false → (n + 1 < lo) ⊎ (lo + 16 ≤ n)
-  unfolding touches
-  far-by e = go (lt-or (n + 1) lo) (lt-or n (lo + 16))
-    where
-      go : (n + 1 < lo) ⊎ (lo ≤ n + 1) → (n < lo + 16) ⊎ (lo + 16 ≤ n) → (n + 1 < lo) ⊎ (lo + 16 ≤ n)
-      go (inl a) b = inl a
-      go (inr a) (inr b) = inr b
-      go (inr a) (inl b) = absurd (let z : _≡_ {A = Bool} true false = sym (rw (le-leb lo (n + 1) a, lt-ltb n (lo + 16) b)) ∙ e in let y : _≡_ {A = ℕ} 0 1 = cc in omega arith)
-
-  module _ (slots : List ℕ) (tag place : ℕ) (e : touches lo n ≡ false) where
-    outside : (inWindow lo n ≡ false) × (inWindow lo (n + 1) ≡ false)
-    outside = go (far-by e)
+  module _ (slots : List ℕ) (tag place : ℕ) (e : between lo (lo + 16 + 1) (n + 1) ≡ false) where
+    outside : (between lo (lo + 16) n ≡ false) × (between lo (lo + 16) (n + 1) ≡ false)
+    outside = go (between-out lo (lo + 16 + 1) (n + 1) e)
       where
-        go : (n + 1 < lo) ⊎ (lo + 16 ≤ n) → (inWindow lo n ≡ false) × (inWindow lo (n + 1) ≡ false)
-        go (inl h) = (in-low lo n (omega arith), in-low lo (n + 1) h)
-        go (inr h) = (in-high lo n (n - lo) refl (omega arith) (omega arith), in-high lo (n + 1) (n + 1 - lo) refl (omega arith) (omega arith))
+        go : (n + 1 < lo) ⊎ (lo + 16 + 1 ≤ n + 1) → (between lo (lo + 16) n ≡ false) × (between lo (lo + 16) (n + 1) ≡ false)
+        go (inl h) = (between-low lo (lo + 16) n (omega arith), between-low lo (lo + 16) (n + 1) h)
+        go (inr h) = (between-high lo (lo + 16) n (omega arith) (omega arith), between-high lo (lo + 16) (n + 1) (omega arith) (omega arith))
 
     pub far-slots : slots ≡ takenIn lo (notedIn lo slots tag n place) tag (n + 1) place
     far-slots = noted-outside lo slots tag n place (outside .0) ∙ taken-outside lo (notedIn lo slots tag n place) tag (n + 1) place (outside .1)

@@ -19,7 +19,7 @@ use Rattle.section.specs.Sweeps.{indexIn, strayIn, Within, Sweeps}
 use Rattle.section.specs.declared.parents.Seat.{Seat}
 use Rattle.section.specs.declared.parents.Seat.the-variants as T
 use Rattle.section.proofs.SeatLaws.{Speaks, speaks-start, speaks-skip, speaks-own, Seating, strays, sits, seating, seat-free}
-use Rattle.section.proofs.FirstLaws.{between-in, between-low, between-high, first-miss, first-hit}
+use Rattle.section.proofs.FirstLaws.{between-in, between-low, between-high, between-out, first-miss, first-hit}
 
 -- ---- a record is named exactly where its level is in the window and rule 9 names it
 
@@ -156,23 +156,41 @@ module _ {s : List ℕ} {lo : ℕ} {table : List ℕ} {at cap deepest : ℕ} {h 
       }
   stray-by (passes c a m w) e = absurd (let z : T.Seated c ≡ T.Stray = sym a ∙ e in let y : _≡_ {A = ℕ} 0 1 = cc in omega arith)
 
+  -- behind a record that is not named, by the numbers that are kept then
+  step : (new : List ℕ) → length new ≡ 64 → named lo (d .rec) (k .earlier) ≡ false
+      → ((l : ℕ) → indexIn lo l < 64 → l ≤ d .rec .level + 1 → Speaks (getD new (indexIn lo l) 0) l (d .rec ∷ k .earlier))
+      → Placing s lo new (at + size (d .rec)) (d .rec .level + 1) (max deepest (d .rec .level))
+  step new h m speaks =
+      record {
+        earlier = d .rec ∷ k .earlier;
+        long = h;
+        low = omega (arith, k .low, d .obeys .level-high);
+        speaks = speaks;
+        within = λ v end p q. k .within v end (omega arith) (subst (Within v end at) (sym records) ((λ _. omega arith), q));
+        rest = here ∙ first-miss _ _ lo (lo + 64) (length s) at (k .earlier) (d .rec) behind m;
+      }
+
   next-by : Judging lo its-code (d .rec) (k .earlier) → (c own : ℕ) → seatOf its-code (d .rec .tag) ≡ T.Seated c → own ≡ ownCode (d .rec .tag)
       → Placing s lo (after lo table (d .rec) (k .earlier) (k .long) c own) (at + size (d .rec)) (d .rec .level + 1) (max deepest (d .rec .level))
   next-by (names a m) c own e o = absurd (let z : T.Stray ≡ T.Seated c = sym a ∙ e in let y : _≡_ {A = ℕ} 0 1 = cc in omega arith)
   next-by (passes b a m w) c own e o =
       let z : T.Seated b ≡ T.Seated c = sym a ∙ e in
       let same : b ≡ c = cc in
-      record {
-        earlier = d .rec ∷ k .earlier;
-        long = simp length-set (k .long);
-        low = omega (arith, k .low, d .obeys .level-high);
-        speaks =
-            after-speaks lo table (d .rec) (k .earlier) (k .long) c own o
-            (λ p. subst (λ (x : ℕ). Speaks x (d .rec .level) (d .rec ∷ k .earlier)) same (w p))
-            (λ l p i. k .speaks l p (omega (arith, d .obeys .level-cap)));
-        within = λ v end p q. k .within v end (omega arith) (subst (Within v end at) (sym records) ((λ _. omega arith), q));
-        rest = here ∙ first-miss _ _ lo (lo + 64) (length s) at (k .earlier) (d .rec) behind m;
-      }
+      step (after lo table (d .rec) (k .earlier) (k .long) c own) (simp length-set (k .long)) m
+      (after-speaks lo table (d .rec) (k .earlier) (k .long) c own o
+      (λ p. subst (λ (x : ℕ). Speaks x (d .rec .level) (d .rec ∷ k .earlier)) same (w p))
+      (λ l p i. k .speaks l p (omega (arith, d .obeys .level-cap))))
+
+  far-by : (d .rec .level + 1 < lo) ⊎ (lo + 64 + 1 ≤ d .rec .level + 1) → Placing s lo table (at + size (d .rec)) (d .rec .level + 1) (max deepest (d .rec .level))
+  far-by (inl q) =
+      step table (k .long) (rw (between-low lo (lo + 64) (d .rec .level) (omega arith))) (λ l p i. absurd (omega arith))
+  far-by (inr q) =
+      step table (k .long) (rw (between-high lo (lo + 64) (d .rec .level) (omega arith) (omega arith)))
+      (λ l p i. let z : l < d .rec .level = omega arith in speaks-skip (d .rec) z (k .speaks l p (omega (arith, d .obeys .level-cap))))
+
+  -- a record outside: neither its level nor its children's is in the window
+  pub placing-far : (deep : ℕ) → between lo (lo + 64 + 1) (h .level + 1) ≡ false → deep ≡ max deepest (h .level) → Placing s lo table (h .next .0) (h .level + 1) deep
+  placing-far deep e m = rw (m, d .next-is, d .level-is) (far-by (between-out lo (lo + 64 + 1) (d .rec .level + 1) (ap (λ (l : ℕ). between lo (lo + 64 + 1) (l + 1)) (sym (d .level-is)) ∙ e)))
 
   -- by what the code's steps gave: the index, the number kept there, and the seat
   module _ (i code : ℕ) (x : Seat) (f : i ≡ indexIn lo (h .level)) (g : code ≡ getD table i 0) (e : x ≡ seatOf code (h .tag)) where

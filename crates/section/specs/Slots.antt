@@ -17,7 +17,7 @@ use Rattle.paragraph.specs.Stream.{recordsIn}
 use Rattle.paragraph.specs.Rules.{firstFault}
 use Rattle.paragraph.specs.Places.{partsIn}
 use Rattle.section.specs.Section.{findingOf}
-use Rattle.section.specs.Windows.{firstIn}
+use Rattle.section.specs.Windows.{between, firstIn}
 use Rattle.section.specs.declared.gather.Blamed.{Blamed}
 use Rattle.paragraph.specs.declared.children.Parts.{Parts}
 use Rattle.paragraph.specs.declared.children.Found.{Found}
@@ -91,24 +91,16 @@ noted slots b tag place =
 unfoldable pub fresh : List ℕ → ℕ → ℕ → List ℕ
 fresh slots b x = set (set (set (set (set (set slots b x) (b + 1) 0) (b + 2) 0) (b + 3) 0) (b + 4) 0) (b + 5) 0
 
--- in the window of 16 levels from lo on
-abbrev pub inWindow : ℕ → ℕ → Bool
-inWindow lo n = leb lo n && ltb n (lo + 16)
-
--- it has the slot of the parent of a record at a level, or the record's own
-unfoldable pub touches : ℕ → ℕ → Bool
-touches lo level = leb lo (level + 1) && ltb level (lo + 16)
-
 -- a record at a level with its parent's slot, and then with its own, that of children at level `below`
 unfoldable pub notedIn : ℕ → List ℕ → ℕ → ℕ → ℕ → List ℕ
-notedIn lo slots tag level place = cond (inWindow lo level) (noted slots (6 * (level - lo)) tag place) slots
+notedIn lo slots tag level place = cond (between lo (lo + 16) level) (noted slots (6 * (level - lo)) tag place) slots
 
 unfoldable pub takenIn : ℕ → List ℕ → ℕ → ℕ → ℕ → List ℕ
 takenIn lo slots tag below place =
-    cond (inWindow lo below) (fresh slots (6 * (below - lo)) (cond (eqb tag kind.paragraphHeader) place 0)) slots
+    cond (between lo (lo + 16) below) (fresh slots (6 * (below - lo)) (cond (eqb tag kind.paragraphHeader) place 0)) slots
 
 unfoldable pub ownFault : List ℕ → ℕ → List ℕ → ℕ → ℕ
-ownFault s lo slots below = cond (inWindow lo below) (slotFault s (headOf slots (6 * (below - lo)))) (length s)
+ownFault s lo slots below = cond (between lo (lo + 16) below) (slotFault s (headOf slots (6 * (below - lo)))) (length s)
 
 -- where a record was noted, the paragraph in its own slot has ended
 abbrev pub Ready : List ℕ → ℕ → List ℕ → ℕ → ℕ → ℕ → Type 0

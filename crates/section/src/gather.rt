@@ -1,6 +1,7 @@
 // The paragraphs of a window of 16 levels in one pass: where the parts of each stand is noted until it ends, and then it is judged. A section
 // of ten levels takes one pass, however its paragraphs are nested; one of 1,000 takes sixty-three.
-use crate::parents::deeper;
+use crate::windows::deeper;
+use crate::windows::inside;
 use judgement::head_fault;
 use numbers::wide;
 use paragraph::Finding;
@@ -19,7 +20,16 @@ ghost use lib.ListN.{length, getD};
 ghost use Rattle.records.specs.Records.{limit};
 ghost use Rattle.records.specs.Reading.{readAll};
 ghost use Rattle.paragraph.specs.Stream.{recordsIn};
-ghost use Rattle.section.specs.Slots.{headOf, entry, partFound, partsOf, slotFault, slotsFault, Ended, more, noted, fresh, notedIn, takenIn, ownFault, deepestFrom, faultIn, Known, Ready, touches};
+ghost use Rattle.section.specs.Slots.{headOf, partFound, partsOf, slotFault, slotsFault, Ended, more, noted, fresh, notedIn, takenIn, ownFault, deepestFrom, faultIn, Known, Ready};
+
+// The levels of a window; a slot for each, of six entries.
+const LEVELS: u32 = 16;
+
+const SLOTS: usize = 16;
+
+const SLOT: usize = 6;
+
+const ENTRIES: usize = 96;
 
 // The record that an entry names.
 fn part_at(s: &[u8], entry: u32) -> Found
@@ -150,10 +160,10 @@ fn note_child(slots: &mut [u32], lo: u32, tag: u32, level: u32, place: u32)
         return;
     }
     let i = wide(level - lo);
-    if 16 <= i {
+    if SLOTS <= i {
         return;
     }
-    note(slots, 6 * i, tag, place);
+    note(slots, SLOT * i, tag, place);
 }
 
 // A record takes its own slot, where the window has one for it: the paragraph that stood there has ended, and is judged.
@@ -166,30 +176,19 @@ fn take_own(s: &[u8], slots: &mut [u32], lo: u32, tag: u32, below: u32, place: u
         return none_at_fault(s);
     }
     let i = wide(below - lo);
-    if 16 <= i {
+    if SLOTS <= i {
         return none_at_fault(s);
     }
-    let fault = judge_slot(s, slots, 6 * i);
+    let fault = judge_slot(s, slots, SLOT * i);
     if tag == Kind::PARAGRAPH_HEADER {
-        renew(slots, 6 * i, place);
+        renew(slots, SLOT * i, place);
     } else {
-        renew(slots, 6 * i, 0);
+        renew(slots, SLOT * i, 0);
     }
     fault
 }
 
-// The window has to do with a record at a level: it has the slot of the record's parent, or the record's own.
-fn near(lo: u32, level: u32) -> bool
-    requires { ⌜ (lo ≤ 1024) × (level < 1024) ⌝ }
-    ensures { λ r. ⌜ r ≡ touches lo level ⌝ }
-{
-    if level + 1 < lo {
-        return false;
-    }
-    level < lo + 16
-}
-
-// Such a record is noted with its parent's paragraph, and takes its own slot.
+// A record is noted with its parent's paragraph, and takes its own slot.
 fn enter(
     s: &[u8],
     slots: &mut [u32],
@@ -217,8 +216,8 @@ fn judge_slots(s: &[u8], slots: &[u32]) -> Blamed
 {
     let mut first = none_at_fault(s);
     let mut i: usize = 0;
-    while i < 16 {
-        first = sooner(first, judge_slot(s, slots, 6 * i));
+    while i < SLOTS {
+        first = sooner(first, judge_slot(s, slots, SLOT * i));
         i = i + 1;
     }
     first
@@ -234,7 +233,8 @@ fn gather(s: &[u8], lo: u32) -> Gathered
     requires { ⌜ (length (now s) ≤ limit) × (readAll (now s) .stop ≡ none) × (lo ≤ 1024) ⌝ }
     ensures { λ r. ⌜ (r .first .at .0 ≡ faultIn lo (lo + 16) (now (s .entry))) × Known (now (s .entry)) (r .first) × (r .deepest ≡ deepestFrom 0 (recordsIn (now (s .entry)))) ⌝ }
 {
-    let mut slots = [0u32; 96];
+    let mut slots = [0u32; ENTRIES];
+    let end = lo + LEVELS + 1;
     let mut at = Offset(0);
     let mut first = none_at_fault(s);
     let mut deepest: u32 = 0;
@@ -242,7 +242,7 @@ fn gather(s: &[u8], lo: u32) -> Gathered
         let Ahead::Record(r) = record_at(s, at, 1023) else {
             break;
         };
-        if near(lo, r.level) {
+        if inside(lo, end, r.level + 1) {
             first = enter(s, &mut slots, lo, r.tag, r.level, at, first);
         }
         deepest = deeper(deepest, r.level);
@@ -259,12 +259,12 @@ pub fn first_at_fault(s: &[u8]) -> Blamed
 {
     let g = gather(s, 0);
     let mut first = g.first;
-    let mut lo: u32 = 16;
+    let mut lo: u32 = LEVELS;
     while lo <= g.deepest + 1 {
         let h = gather(s, lo);
         let other = h.first;
         first = sooner(first, other);
-        lo = lo + 16;
+        lo = lo + LEVELS;
     }
     first
 }

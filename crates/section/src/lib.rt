@@ -2,6 +2,7 @@
 mod gather;
 mod parents;
 mod rules;
+mod windows;
 
 pub use parents::Seat;
 pub use parents::Stray;

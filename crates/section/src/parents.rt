@@ -1,12 +1,14 @@
 // Where records 67 to 70 stand: rule 9. A pass keeps 64 bytes on the stack, one for each level of a window; only a stream that goes deeper is
 // passed again, for the next 64 levels.
+use crate::windows::deeper;
+use crate::windows::inside;
 use records::Ahead;
 use records::Kind;
 use records::Offset;
 use records::record_at;
 ghost use mathlib.Core.Path.{_≡_};
 ghost use mathlib.Core.List.{[]};
-ghost use Prim.Native.Nat.{_≤_, max};
+ghost use Prim.Native.Nat.{_≤_, _<_};
 ghost use lib.ListN.{getD, set};
 ghost use Rattle.records.specs.Reading.{readAll};
 ghost use Rattle.section.specs.Parents.{leaf, strayFrom, strayOf};
@@ -118,18 +120,14 @@ fn keep(table: &mut [u8], i: usize, code: u8)
     }
 }
 
-// The greater of two levels.
-pub fn deeper(a: u32, b: u32) -> u32
-    ensures { λ r. ⌜ r ≡ max a b ⌝ }
-{
-    if a < b { b } else { a }
-}
-
-// One pass with a number for each level of the window from lo on: what the parent of a record at that level is, and which of 67 to 70 it has.
+// One pass with a number for each level of the window from lo on: what the parent of a record at that level is, and which of 67 to 70 it has. A
+// record costs no more than its header where neither its level nor its children's is in the window.
 fn sweep(s: &[u8], lo: u32) -> Swept
+    requires { ⌜ lo < 1024 ⌝ }
     ensures { λ r. ⌜ Sweeps (now (s .entry)) lo r ⌝ }
 {
     let mut table = [16u8; LEVELS as usize];
+    let end = lo + LEVELS + 1;
     let mut at = Offset(0);
     let mut cap: u32 = 0;
     let mut deepest: u32 = 0;
@@ -140,19 +138,21 @@ fn sweep(s: &[u8], lo: u32) -> Swept
                 deepest,
             };
         };
-        let i = index_in(lo, r.level);
-        match take_seat(kept(&table, i), r.tag) {
-            Seat::Stray => {
-                return Swept { stray: at, deepest };
+        cap = r.level + 1;
+        if inside(lo, end, cap) {
+            let i = index_in(lo, r.level);
+            match take_seat(kept(&table, i), r.tag) {
+                Seat::Stray => {
+                    return Swept { stray: at, deepest };
+                }
+                Seat::Seated(code) => {
+                    keep(&mut table, i, code);
+                }
             }
-            Seat::Seated(code) => {
-                keep(&mut table, i, code);
-            }
+            keep(&mut table, index_in(lo, cap), own_code(r.tag));
         }
         deepest = deeper(deepest, r.level);
         at = r.next;
-        cap = r.level + 1;
-        keep(&mut table, index_in(lo, cap), own_code(r.tag));
     }
 }
 

@@ -1,5 +1,6 @@
 //! bench: times of the linked library beside those of the oracle, of a bare pass over the headers and of a memory copy,
-//! in one run. `bench --hostile [BYTES]` measures deep nesting alone, at the limit where no number of bytes is given.
+//! in one run. `bench --hostile [BYTES]` measures deep nesting alone, at the limit where no number of bytes is given;
+//! `bench --depth` what rule 9 and the paragraphs cost where the records are a thousand levels deep.
 //! Where it was built with HWP_BEFORE, the full path of another archive, it has that library too, and `bench --beside`
 //! measures the two alone. It says what was measured and never fails on a time.
 
@@ -15,6 +16,7 @@ use clock::{bare_pass, medians, Times, ROUNDS};
 use compare::cases::sections::{hostile, HOSTILE};
 use compare::random::Random;
 use native::Native;
+use oracle::answer::answer;
 use oracle::LIMIT;
 use services::{pair, Service, OF_HOST};
 use std::hint::black_box;
@@ -115,26 +117,40 @@ fn bench_host() {
 /// So many levels are judged in one pass: for rule 9, and for the paragraphs.
 const WINDOWS: [u32; 2] = [64, 16];
 
-/// The passes of check where all stands at level 0: reading, rule 9, the paragraphs.
-const PASSES: f64 = 3.0;
-
-/// What the levels of chains cost check beside as many records at level 0: in bare passes, and in passes of check's own.
+/// What rule 9 and the paragraphs of chains cost, each by itself, in bare passes. Behind the same records stands a piece
+/// of a header, so that check ends with its reading, or a record that 9 names, so that it ends with rule 9.
 fn bench_depth(body: usize) {
-    let deep = shape::small(LIMIT, body, shape::CHAINS);
-    let flat = shape::small(LIMIT, body, shape::FLAT);
+    let deep = shape::small(LIMIT - 4, body, shape::CHAINS);
+    let [cut, stray] = [&shape::CUT[..], &shape::STRAY].map(|end| [&deep, end].concat());
+    for (stream, number, place) in [(&cut, 2, cut.len()), (&stray, 9, deep.len())] {
+        let answers = pair(services::check, stream).map(|mut call| call());
+        assert_eq!(answers, [answer(number, place, 0); 2]);
+    }
     let check = |stream| services::check(&Native, stream);
-    let [took, at_0, bare] = medians([&mut check(&deep), &mut check(&flat), &mut || {
+    let [reading, nine, all, bare] = medians([&mut check(&cut), &mut check(&stray), &mut check(&deep), &mut || {
         bare_pass(black_box(&deep))
     }]);
-    let [cost, own] = [bare, at_0 / PASSES].map(|pass| (took - at_0) / pass);
-    let [nine, parts] = WINDOWS.map(|levels| f64::from(shape::CHAIN) / f64::from(levels) + 1.0);
     println!(
-        "check, chains of {} levels, bodies of {body} bytes, {}: {took:.3} ms, at level 0 {at_0:.3} ms, \
-         bare pass {bare:.3} ms; the deeper levels cost {cost:.1} bare passes, or {own:.1} of check's own passes over \
-         the headers, where {nine:.1} are allowed for rule 9 and {parts:.1} for the paragraphs",
+        "chains of {} levels, bodies of {body} bytes, {}: reading {reading:.3} ms, bare pass {bare:.3} ms",
         shape::CHAIN,
         size(deep.len())
     );
+    let parts = [("rule 9", nine - reading), ("the paragraphs", all - nine)];
+    for ((part, took), levels) in parts.into_iter().zip(WINDOWS) {
+        let passes = shape::CHAIN.div_ceil(levels);
+        let bound = f64::from(shape::CHAIN) / f64::from(levels) + 1.0;
+        println!(
+            "  {part} alone: {took:.3} ms in {passes} passes: {:.1} bare passes, {:.1} readings; levels / window + 1 is {bound:.1}",
+            took / bare,
+            took / reading
+        );
+    }
+}
+
+fn bench_depths() {
+    for body in [4, 0] {
+        bench_depth(body);
+    }
 }
 
 /// The library that was built before, and this one, in turn.
@@ -168,9 +184,7 @@ fn bench_all() {
     for (name, level) in shape::SMALL {
         bench_read(name, &shape::small(LIMIT, 4, level));
     }
-    for body in [4, 0] {
-        bench_depth(body);
-    }
+    bench_depths();
     bench_host();
 }
 
@@ -193,6 +207,7 @@ fn bench_hostile(length: usize) {
 enum Asked {
     All,
     Hostile(usize),
+    Depth,
     Beside,
 }
 
@@ -202,6 +217,7 @@ fn asked(words: &[&str]) -> Option<Asked> {
         [] => Some(Asked::All),
         ["--hostile"] => Some(Asked::Hostile(LIMIT)),
         ["--hostile", bytes] => bytes.parse().ok().filter(lawful).map(Asked::Hostile),
+        ["--depth"] => Some(Asked::Depth),
         ["--beside"] if cfg!(before) => Some(Asked::Beside),
         _ => None,
     }
@@ -211,7 +227,7 @@ fn main() -> ExitCode {
     let words: Vec<String> = std::env::args().skip(1).collect();
     let words: Vec<&str> = words.iter().map(String::as_str).collect();
     let Some(asked) = asked(&words) else {
-        eprintln!("usage: bench [--hostile [BYTES]], at most {LIMIT} bytes; or --beside, if built with HWP_BEFORE");
+        eprintln!("usage: bench [--depth | --hostile [BYTES]], at most {LIMIT} bytes; or --beside, if built with HWP_BEFORE");
         return ExitCode::from(2);
     };
     println!("medians of {ROUNDS} rounds after one; in each round every call runs once, in turn");
@@ -222,6 +238,7 @@ fn main() -> ExitCode {
     match asked {
         Asked::All => bench_all(),
         Asked::Hostile(length) => bench_hostile(length),
+        Asked::Depth => bench_depths(),
         Asked::Beside => bench_beside(),
     }
     ExitCode::SUCCESS

@@ -1,4 +1,3 @@
--- One pass finds what is first at fault in its window, and how deep the records go. Assumes nothing.
 use borrow.Author.Needs.{needs}
 use native.Mathlib.Omega.{arith}
 use Prim.Native.Nat.{ℕ, _-_, _<_}
@@ -18,16 +17,22 @@ use Rattle.section.proofs.gather.gather.Lts as lts
 use Rattle.records.proofs.record_at.Reads as record-at-reads
 use Rattle.section.proofs.gather.enter.Reads as enter-reads
 use Rattle.section.proofs.gather.judge_slots.Reads as judge-slots-reads
-use Rattle.section.proofs.gather.near.Reads as near-reads
 use Rattle.section.proofs.gather.none_at_fault.Reads as none-at-fault-reads
 use Rattle.section.proofs.gather.sooner.Reads as sooner-reads
-use Rattle.section.proofs.parents.deeper.Reads as deeper-reads
+use Rattle.section.proofs.windows.deeper.Reads as deeper-reads
+use Rattle.section.proofs.windows.inside.Reads as inside-reads
 
 abbrev Inv-loop : tie.InvT-loop
-Inv-loop s lo slots₀ at₀ first₀ deepest₀ slots at first deepest = Gathers s lo slots (at .0) (first .at .0) deepest × Known s first
+Inv-loop s lo slots₀ end at₀ first₀ deepest₀ slots at first deepest = Gathers s lo slots (at .0) (first .at .0) deepest × Known s first
 
 abbrev μ-loop : tie.MeasureT-loop
-μ-loop s lo slots₀ at₀ first₀ deepest₀ slots at first deepest = length s - at .0
+μ-loop s lo slots₀ end at₀ first₀ deepest₀ slots at first deepest = length s - at .0
+
+add-end : tie.Need-add-end Inv-loop μ-loop
+add-end c = omega (arith, c .before .pre .2)
+
+add-end-2 : tie.Need-add-end-2 Inv-loop μ-loop
+add-end-2 c = omega (arith, c .before .pre .2)
 
 none-at-fault-requires : tie.Need-none-at-fault-requires Inv-loop μ-loop
 none-at-fault-requires c κs = search needs
@@ -54,27 +59,30 @@ its c = read-at _ _ (slice-bytes (head c .before .before .before .args .s .now) 
 low : (c : tie.After-r Inv-loop μ-loop) → c .r .given .0 .0 .level < 1024
 low c = omega (arith, its c .level-is, its c .stands .level-high)
 
-near-requires : tie.Need-near-requires Inv-loop μ-loop
-near-requires c κs = (head (c .before) .before .before .before .pre .2, low (c .before))
+add-inside : tie.Need-add-inside Inv-loop μ-loop
+add-inside c = omega (arith, low (c .before .before))
+
+inside-requires : tie.Need-inside-requires Inv-loop μ-loop
+inside-requires c κs = search needs
 
 slice-aggregate-enter : tie.Need-slice-aggregate-enter Inv-loop μ-loop
 slice-aggregate-enter c = search needs
 
 enter-requires : tie.Need-enter-requires Inv-loop μ-loop
-enter-requires c κs = let d = c .before .before .before .before in let k = head d .loop .inv .0 in ((k .long, low d, gathers-place k (stood d) (its d)), (gathers-few k, gathers-ready k (stood d) (its d)))
+enter-requires c κs = let d = c .before .before .before .before .before in let k = head d .loop .inv .0 in ((k .long, low d, gathers-place k (stood d) (its d)), (gathers-few k, gathers-ready k (stood d) (its d)))
 
 deeper-requires : tie.Need-deeper-requires Inv-loop μ-loop
 deeper-requires c κs = search needs
 
 loop-less : tie.Need-loop-less Inv-loop μ-loop
-loop-less c = let d = c .before .before .before .before .before in omega (arith, its d .next-is, its d .stands .inside, its d .least)
+loop-less c = let d = c .before .before .before .before .before .before in omega (arith, its d .next-is, its d .stands .inside, its d .least)
 
 loop-again : tie.Need-loop-again Inv-loop μ-loop
 loop-again c =
-    let d = c .before .before .before .before .before in
+    let d = c .before .before .before .before .before .before in
     let k = head d .loop .inv in
     ⊎-elim (λ w. rw (w .4, w .5) (gathers-step (k .0) (stood d) (its d) _ _ _ (w .2 .ensures .0) (w .2 .ensures .2) (c .before .deeper .ensures), w .2 .ensures .1 (k .1)))
-    (λ w. rw (w .1, w .2) (gathers-far (k .0) (stood d) (its d) _ (sym (c .before .before .before .near .ensures) ∙ w .0 .left) (c .before .deeper .ensures), k .1)) (c .before .before .if1 .came)
+    (λ w. rw (w .1, w .2) (gathers-far (k .0) (stood d) (its d) _ (sym (c .before .before .before .inside .ensures) ∙ w .0 .left) (c .before .deeper .ensures), k .1)) (c .before .before .if1 .came)
 
 slice-aggregate-judge-slots : tie.Need-slice-aggregate-judge-slots Inv-loop μ-loop
 slice-aggregate-judge-slots c = search needs
@@ -94,11 +102,14 @@ gather-spec =
     (tie.spec
     Inv-loop
     μ-loop
+    add-end
+    add-end-2
     none-at-fault-requires
     loop-holds
     record-at-requires
     enum-known-r
-    near-requires
+    add-inside
+    inside-requires
     slice-aggregate-enter
     enter-requires
     deeper-requires

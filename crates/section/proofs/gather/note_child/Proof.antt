@@ -1,6 +1,7 @@
 -- A record is noted with its parent as `notedIn` has it. Assumes nothing.
 use mathlib.Core.Path.{_∙_}
-use Rattle.section.proofs.SlotLaws.{in-low, in-high, in-window, noted-outside, noted-inside}
+use Rattle.section.proofs.FirstLaws.{between-low}
+use Rattle.section.proofs.SlotLaws.{in-high, in-window, noted-outside, noted-inside}
 use borrow.Author.Needs.{needs}
 use Rattle.section.proofs.gather.note_child.Statement.{statement}
 use Rattle.section.proofs.gather.note_child.Tie as tie
@@ -10,7 +11,7 @@ use Rattle.numbers.proofs.wide.Reads as wide-reads
 use Rattle.section.proofs.gather.note.Reads as note-reads
 
 returns : tie.Need-returns
-returns c = noted-outside _ _ _ _ _ (in-low _ _ (c .if1 .taken))
+returns c = noted-outside _ _ _ _ _ (between-low _ _ _ (c .if1 .taken))
 
 wide-requires : tie.Need-wide-requires
 wide-requires c κs = search needs

@@ -1,7 +1,8 @@
 -- A record takes its own slot as `takenIn` has it. Assumes nothing.
 use native.Mathlib.Omega.{arith}
 use mathlib.Core.Path.{_∙_}
-use Rattle.section.proofs.SlotLaws.{in-low, in-high, in-window, taken-outside, taken-header, taken-other, own-outside, own-inside, own-ended}
+use Rattle.section.proofs.FirstLaws.{between-low}
+use Rattle.section.proofs.SlotLaws.{in-high, in-window, taken-outside, taken-header, taken-other, own-outside, own-inside, own-ended}
 use borrow.Author.Needs.{needs}
 use Rattle.section.proofs.gather.take_own.Statement.{statement}
 use Rattle.section.proofs.gather.take_own.Tie as tie
@@ -16,7 +17,7 @@ none-at-fault-requires : tie.Need-none-at-fault-requires
 none-at-fault-requires c κs = search needs
 
 returns : tie.Need-returns
-returns c = let o = in-low _ _ (c .before .if1 .taken) in (c .none-at-fault .ensures .0 ∙ own-outside _ _ 0 _ 0 _ o, c .none-at-fault .ensures .1, taken-outside _ _ _ _ _ o)
+returns c = let o = between-low _ _ _ (c .before .if1 .taken) in (c .none-at-fault .ensures .0 ∙ own-outside _ _ 0 _ 0 _ o, c .none-at-fault .ensures .1, taken-outside _ _ _ _ _ o)
 
 wide-requires : tie.Need-wide-requires
 wide-requires c κs = search needs
