@@ -1,6 +1,6 @@
 -- The gathering pass: each slot of its window holds a paragraph and the parts that it had so far, and what is first at fault is among those judged,
 -- those held and those to come. Assumes nothing.
-use Prim.Native.Nat.{ℕ, zero, suc, _+_, _-_, _*_, _≤_, _<_, min, max}
+use Prim.Native.Nat.{ℕ, zero, suc, _+_, _-_, _*_, _≤_, _<_, min}
 use native.Mathlib.Omega.{arith}
 use mathlib.Core.Path.{_≡_, refl, sym, ap, ap₂, _∙_, subst}
 use mathlib.Core.Logic.{_⊎_, inl, inr}
@@ -28,9 +28,9 @@ use Rattle.paragraph.proofs.ViewLaws.{side-beyond, side-deeper, side-low, side-
 use Rattle.paragraph.proofs.PartLaws.{Gathering, taken, nothing, gather-start, gather-beyond, gather-passed, gather-child, gather-none}
 use Rattle.section.specs.Parents.{header}
 use Rattle.section.specs.Windows.{between, firstIn}
-use Rattle.section.specs.Slots.{headOf, entry, partFound, partsOf, below, faulty, slotFault, slotsFault, Ended, more, noted, fresh, notedIn, takenIn, ownFault, Ready, faultIn, deepestFrom}
+use Rattle.section.specs.Slots.{headOf, entry, partFound, partsOf, below, faulty, slotFault, slotsFault, Ended, more, noted, fresh, notedIn, takenIn, ownFault, heldIn, faultIn}
 use Rattle.section.proofs.FirstLaws.{between-in, between-low, between-high, first-next, first-below}
-use Rattle.section.proofs.SlotLaws.{far-slots, far-fault, part-none, part-there, more-control, more-first, more-later, noted-empty, noted-low, noted-high, noted-there, noted-outside, noted-inside}
+use Rattle.section.proofs.SlotLaws.{held-in, held-fault, unheld, far-slots, far-fault, part-none, part-there, more-control, more-first, more-later, noted-empty, noted-low, noted-high, noted-there, noted-outside, noted-inside}
 
 -- ---- slots that have the same entries
 
@@ -634,7 +634,7 @@ module _ (s : List ℕ) (at : ℕ) (r : Record) (d : Read s at r) (earlier : Lis
 
 -- ---- where the pass stands at its loop's head
 
-pub record Gathers (s : List ℕ) (lo : ℕ) (slots : List ℕ) (at first deepest : ℕ) : Type 0 where
+pub record Gathers (s : List ℕ) (lo : ℕ) (slots : List ℕ) (at first : ℕ) : Type 0 where
   pub small : length s ≤ limit
   pub inside : at ≤ length s
   pub first-low : first ≤ length s
@@ -646,7 +646,6 @@ pub record Gathers (s : List ℕ) (lo : ℕ) (slots : List ℕ) (at first deepes
   pub slot : (i : ℕ) → i < 16 → Holds s lo cap slots i at
   pub rest : faultIn lo (lo + 16) s
       ≡ min first (min (slotsFault s slots 16) (firstIn below faulty lo (lo + 16) (length s) at earlier (recordsIn (drop at s))))
-  pub deep : deepestFrom 0 (recordsIn s) ≡ deepestFrom deepest (recordsIn (drop at s))
 
 pub zeros : (n i : ℕ) → getD (replicate {A = ℕ} n 0) i 0 ≡ 0
 zeros zero i = refl
@@ -654,7 +653,7 @@ zeros (suc n) zero = refl
 zeros (suc n) (suc i) = zeros n i
 
 pub gathers-start : (s : List ℕ) (lo : ℕ) (slots : List ℕ) (first : ℕ) → first ≡ length s → Bytes s → length s ≤ limit → readAll s .stop ≡ none → length slots ≡ 96
-    → ((i : ℕ) → getD slots i 0 ≡ 0) → Gathers s lo slots 0 first 0
+    → ((i : ℕ) → getD slots i 0 ≡ 0) → Gathers s lo slots 0 first
 unfolding faultIn readAll
 gathers-start s lo slots first f bs h e n z =
     record {
@@ -668,10 +667,9 @@ gathers-start s lo slots first f bs h e n z =
       lawful = subst (Lawful 0) (sym (in-read s bs e)) (encode-read 0 s bs e .lawful);
       slot = λ i q. inl (z (6 * i));
       rest = let b = first-below below faulty lo (lo + 16) (length s) 0 [] (recordsIn s) in omega (arith, slots-empty s slots 16 z, b, f);
-      deep = refl;
     }
 
-module _ {s : List ℕ} {lo : ℕ} {slots : List ℕ} {at first deepest : ℕ} {r : Record} (k : Gathers s lo slots at first deepest) (ahead : aheadOf 1023 s at ≡ N.Record r)
+module _ {s : List ℕ} {lo : ℕ} {slots : List ℕ} {at first : ℕ} {r : Record} (k : Gathers s lo slots at first) (ahead : aheadOf 1023 s at ≡ N.Record r)
     (d : Read s at r) where
   obeyed : Lawful (k .cap) (d .rec ∷ recordsIn (drop (r .next .0) s))
   obeyed = subst (Lawful (k .cap)) (d .records) (k .lawful)
@@ -688,11 +686,11 @@ module _ {s : List ℕ} {lo : ℕ} {slots : List ℕ} {at first deepest : ℕ} {
   abbrev pub taken-slots : List ℕ
   taken-slots = takenIn lo noted-slots (r .tag) (r .level + 1) (at + 1)
 
-  noted-room : length noted-slots ≡ 96
+  pub noted-room : length noted-slots ≡ 96
   noted-room = noted-long s lo at r ahead d slots (k .long)
 
   -- the paragraph in the record's own slot has ended
-  pub gathers-ended : lo ≤ r .level + 1 → r .level + 1 < lo + 16 → Ended s noted-slots (6 * (r .level + 1 - lo))
+  gathers-ended : lo ≤ r .level + 1 → r .level + 1 < lo + 16 → Ended s noted-slots (6 * (r .level + 1 - lo))
   gathers-ended a b = holds-ended {cap = r .level} {at = r .next .0} (omega arith) (noted-slot (r .level + 1 - lo) (omega arith))
 
   abbrev still : ℕ
@@ -704,10 +702,8 @@ module _ {s : List ℕ} {lo : ℕ} {slots : List ℕ} {at first deepest : ℕ} {
       ∙ first-next below faulty lo (lo + 16) (length s) at (k .earlier) (d .rec) (recordsIn (drop (r .next .0) s))
       ∙ ap (λ (n : ℕ). min (next-one s at r d (k .earlier) lo noted-slots noted-room) (firstIn below faulty lo (lo + 16) (length s) n (d .rec ∷ k .earlier) (recordsIn (drop (r .next .0) s)))) (sym (d .next-is))
 
-  pub gathers-next : (own first′ deepest′ : ℕ) → own ≡ ownFault s lo noted-slots (r .level + 1) → first′ ≡ min first own → deepest′ ≡ max deepest (r .level)
-      → Gathers s lo taken-slots (r .next .0) first′ deepest′
-  unfolding deepestFrom
-  gathers-next own first′ deepest′ o f e =
+  gathers-next : (own first′ : ℕ) → own ≡ ownFault s lo noted-slots (r .level + 1) → first′ ≡ min first own → Gathers s lo taken-slots (r .next .0) first′
+  gathers-next own first′ o f =
       record {
         small = k .small;
         inside = omega (arith, d .stands .inside, d .next-is);
@@ -723,33 +719,47 @@ module _ {s : List ℕ} {lo : ℕ} {slots : List ℕ} {at first deepest : ℕ} {
             let b = exchanged s at r d (k .earlier) lo noted-slots noted-room in
             exchange first (slotsFault s slots 16) (next-one s at r d (k .earlier) lo noted-slots noted-room) still own (slotsFault s taken-slots 16) first′
             (k .rest ∙ ap (λ (n : ℕ). min first (min (slotsFault s slots 16) n)) to-come) (ap (λ (n : ℕ). min n (slotsFault s taken-slots 16)) o ∙ b ∙ ap (min (next-one s at r d (k .earlier) lo noted-slots noted-room)) a) f;
-        deep =
-            k .deep ∙ ap (deepestFrom deepest) (d .records)
-            ∙ ap (λ (m : ℕ). deepestFrom m (recordsIn (drop (r .next .0) s))) (ap (max deepest) (sym (d .level-is)) ∙ sym e);
       }
 
-  -- the same by the slots as the call left them
-  pub gathers-ready : Ready s lo slots (r .tag) (r .level) (at + 1)
-  gathers-ready = (noted-room, gathers-ended)
+  -- the same by the slots as the calls left them, and what was judged
+  gathers-step : (two : List ℕ) (first′ : ℕ) → first′ ≡ min first (ownFault s lo noted-slots (r .level + 1)) → two ≡ taken-slots → Gathers s lo two (r .next .0) first′
+  gathers-step two first′ f t =
+      subst (λ (l : List ℕ). Gathers s lo l (r .next .0) first′) (sym t) (gathers-next (ownFault s lo noted-slots (r .level + 1)) first′ refl f)
 
-  pub gathers-step : (two : List ℕ) (first′ deepest′ : ℕ) → first′ ≡ min first (ownFault s lo noted-slots (r .level + 1)) → two ≡ taken-slots
-      → deepest′ ≡ max deepest (r .level) → Gathers s lo two (r .next .0) first′ deepest′
-  gathers-step two first′ deepest′ f t g =
-      subst (λ (l : List ℕ). Gathers s lo l (r .next .0) first′ deepest′) (sym t) (gathers-next (ownFault s lo noted-slots (r .level + 1)) first′ deepest′ refl f g)
+  -- where the paragraph in the record's own slot is judged, and where none stands there
+  module _ (one two : List ℕ) (n : one ≡ noted-slots) (t : two ≡ takenIn lo one (r .tag) (r .level + 1) (at + 1)) where
+    here : two ≡ taken-slots
+    here = t ∙ ap (λ (l : List ℕ). takenIn lo l (r .tag) (r .level + 1) (at + 1)) n
+
+    pub gathers-held : (m judged first′ : ℕ) → m ≡ r .level + 1 - lo → heldIn lo one (r .level + 1) ≡ true → judged ≡ slotFault s (headOf one (6 * m))
+        → first′ ≡ min first judged → Gathers s lo two (r .next .0) first′
+    gathers-held m judged first′ is e j f =
+        gathers-step two first′ (f ∙ ap (min first) (j ∙ held-fault lo (r .level + 1) one s m is e ∙ ap (λ (l : List ℕ). ownFault s lo l (r .level + 1)) n)) here
+
+    pub gathers-unheld : heldIn lo one (r .level + 1) ≡ false → Gathers s lo two (r .next .0) first
+    gathers-unheld e =
+        let z = ap (λ (l : List ℕ). ownFault s lo l (r .level + 1)) (sym n) ∙ unheld lo (r .level + 1) one s e in
+        gathers-step two first (omega (arith, z, k .first-low)) here
+
+  -- where it is judged, it has ended
+  pub gathers-ready : (one : List ℕ) (m : ℕ) → one ≡ noted-slots → m ≡ r .level + 1 - lo → heldIn lo one (r .level + 1) ≡ true
+      → (6 * m + 6 ≤ length one) × Ended s one (6 * m)
+  gathers-ready one m n is e =
+      let w = held-in lo (r .level + 1) one e in
+      rw (n, is) (omega (arith, noted-room, w .1), gathers-ended (w .0) (w .1))
 
   -- a record outside the window
-  pub gathers-far : (deepest′ : ℕ) → between lo (lo + 16 + 1) (r .level + 1) ≡ false → deepest′ ≡ max deepest (r .level) → Gathers s lo slots (r .next .0) first deepest′
-  gathers-far deepest′ e g =
-      gathers-step slots first deepest′ (far-fault lo (r .level) slots (r .tag) (at + 1) e s first (k .first-low)) (far-slots lo (r .level) slots (r .tag) (at + 1) e) g
+  pub gathers-far : between lo (lo + 16 + 1) (r .level + 1) ≡ false → Gathers s lo slots (r .next .0) first
+  gathers-far e = gathers-step slots first (far-fault lo (r .level) slots (r .tag) (at + 1) e s first (k .first-low)) (far-slots lo (r .level) slots (r .tag) (at + 1) e)
 
   -- its numbers are small
   pub gathers-place : at < 16777216
   gathers-place = omega (arith, k .small, d .stands .inside, d .least)
 
-pub gathers-few : {s : List ℕ} {lo : ℕ} {slots : List ℕ} {at first deepest : ℕ} → Gathers s lo slots at first deepest → (i : ℕ) → getD slots i 0 < 4294967295
+pub gathers-few : {s : List ℕ} {lo : ℕ} {slots : List ℕ} {at first : ℕ} → Gathers s lo slots at first → (i : ℕ) → getD slots i 0 < 4294967295
 gathers-few k i = omega (arith, k .few i, k .inside, k .small)
 
-module _ {s : List ℕ} {lo : ℕ} {slots : List ℕ} {at first deepest : ℕ} (k : Gathers s lo slots at first deepest) (e : recordsIn (drop at s) ≡ []) where
+module _ {s : List ℕ} {lo : ℕ} {slots : List ℕ} {at first : ℕ} (k : Gathers s lo slots at first) (e : recordsIn (drop at s) ≡ []) where
   pub gathers-last : (i : ℕ) → i < 16 → Ended s slots (6 * i)
   gathers-last i q = holds-last e (k .slot i q)
 
@@ -758,7 +768,3 @@ module _ {s : List ℕ} {lo : ℕ} {slots : List ℕ} {at first deepest : ℕ} (
   gathers-first x q =
       let z : firstIn below faulty lo (lo + 16) (length s) at (k .earlier) (recordsIn (drop at s)) ≡ length s = ap (firstIn below faulty lo (lo + 16) (length s) at (k .earlier)) e in
       omega (arith, k .rest, z, q, slots-below s slots 16)
-
-  pub gathers-deepest : deepest ≡ deepestFrom 0 (recordsIn s)
-  unfolding deepestFrom
-  gathers-deepest = sym (k .deep ∙ ap (deepestFrom deepest) e)

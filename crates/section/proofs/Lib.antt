@@ -1,6 +1,7 @@
 pub mod FirstLaws
 pub mod SeatLaws
 pub mod StrayLaws
+pub mod OpeningLaws
 pub mod SweepLaws
 pub mod SlotLaws
 pub mod GatherLaws

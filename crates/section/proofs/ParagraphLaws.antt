@@ -27,17 +27,13 @@ use Rattle.paragraph.specs.declared.finding.Finding.the-variants as G
 use Rattle.paragraph.proofs.StreamLaws.{in-read, stood-of, Stood}
 use Rattle.section.specs.Parents.{header}
 use Rattle.section.specs.Section.{findingOf, paragraphsFault}
-use Rattle.section.specs.Windows.{firstIn}
-use Rattle.section.specs.Slots.{below, faulty, faultIn, deepestFrom}
+use Rattle.section.specs.Windows.{firstIn, deepestFrom}
+use Rattle.section.specs.Slots.{below, faulty, faultIn}
+use Rattle.section.proofs.SweepLaws.{deepest-above}
 use Rattle.section.proofs.SlotLaws.{end-lawful}
 use Rattle.section.proofs.FirstLaws.{between-in, between-low, first-miss, first-hit, first-join, first-below}
 
 -- ---- how deep the records go
-
-deepest-above : (m : ℕ) (rs : List Rec) → m ≤ deepestFrom m rs
-unfolding deepestFrom
-deepest-above m [] = omega arith
-deepest-above m (r ∷ rs) = omega (arith, deepest-above (max m (r .level)) rs)
 
 deepest-high : (cap m : ℕ) (rs : List Rec) → Lawful cap rs → m < 1024 → deepestFrom m rs < 1024
 unfolding deepestFrom
@@ -61,19 +57,23 @@ module _ (s : List ℕ) where
   unfolding faultIn
   windows-next lo first x e q = rw (e, q) (first-join below faulty 0 lo (lo + 16) (length s) 0 [] (recordsIn s) (omega arith) (omega arith))
 
-  pub windows-all : (lo first : ℕ) → first ≡ faultIn 0 lo s → deepestFrom 0 (recordsIn s) < 1024 → deepestFrom 0 (recordsIn s) + 1 < lo → first ≡ faultIn 0 1025 s
+  pub windows-all : (lo first deepest : ℕ) → Bytes s → readAll s .stop ≡ none → first ≡ faultIn 0 lo s → deepest ≡ deepestFrom 0 (readAll s .recs) → deepest < 1024
+      → deepest + 1 < lo → first ≡ faultIn 0 1025 s
   unfolding faultIn
-  windows-all lo first e d h = e ∙ go (lt-or lo 1025)
+  windows-all lo first deepest bs w e m d h = e ∙ go (lt-or lo 1025)
     where
+      deep : deepestFrom 0 (recordsIn s) ≡ deepest
+      deep = ap (deepestFrom 0) (in-read s bs w) ∙ sym m
+
       go : (lo < 1025) ⊎ (1025 ≤ lo) → faultIn 0 lo s ≡ faultIn 0 1025 s
       go (inl q) =
           let a = first-join below faulty 0 lo 1025 (length s) 0 [] (recordsIn s) (omega arith) (omega arith) in
-          let b = beyond-none faulty 0 lo 1025 (length s) 0 [] (recordsIn s) h in
+          let b = beyond-none faulty 0 lo 1025 (length s) 0 [] (recordsIn s) (omega (arith, deep)) in
           let c = first-below below faulty 0 lo (length s) 0 [] (recordsIn s) in
           omega (arith, a, b, c)
       go (inr q) =
           let a = first-join below faulty 0 1025 lo (length s) 0 [] (recordsIn s) (omega arith) q in
-          let b = beyond-none faulty 0 1025 lo (length s) 0 [] (recordsIn s) (omega arith) in
+          let b = beyond-none faulty 0 1025 lo (length s) 0 [] (recordsIn s) (omega (arith, deep)) in
           let c = first-below below faulty 0 1025 (length s) 0 [] (recordsIn s) in
           omega (arith, a, b, c)
 
@@ -81,8 +81,9 @@ module _ (s : List ℕ) where
   unfolding readAll
   read-lawful bs e = subst (Lawful 0) (sym (in-read s bs e)) (encode-read 0 s bs e .lawful)
 
-  pub read-deepest : Bytes s → readAll s .stop ≡ none → (d : ℕ) → d ≡ deepestFrom 0 (recordsIn s) → d < 1024
-  read-deepest bs e d q = rw q (deepest-high 0 0 (recordsIn s) (read-lawful bs e) (omega arith))
+  pub read-deepest : Bytes s → readAll s .stop ≡ none → (d : ℕ) → d ≡ deepestFrom 0 (readAll s .recs) → d < 1024
+  unfolding readAll
+  read-deepest bs e d q = rw q (deepest-high 0 0 (readAll s .recs) (encode-read 0 s bs e .lawful) (omega arith))
 
 -- ---- the least place is that of the first paragraph at fault
 

@@ -1,7 +1,7 @@
 -- The passes of a section over the stream are the rules over its records. Assumes nothing.
-use Prim.Native.Nat.{ℕ, _-_}
+use Prim.Native.Nat.{ℕ, _<_}
 use native.Mathlib.Omega.{arith}
-use mathlib.Core.Path.{_≡_, sym, ap, _∙_}
+use mathlib.Core.Path.{_≡_, refl, sym, ap, _∙_}
 use mathlib.Core.Option.{Option, none, some}
 use mathlib.Core.List.{List, []}
 use Rattle.numbers.specs.Little.{Bytes}
@@ -16,7 +16,7 @@ use Rattle.records.specs.declared.fault.Answer.the-variants as A
 use Rattle.records.specs.Reading.{offset}
 use Rattle.records.specs.declared.fault.Offset.{Offset}
 use Rattle.records.proofs.AnswerLaws.{judged-accepted}
-use Rattle.records.proofs.ScanLaws.{accepted}
+use Rattle.records.proofs.ScanLaws.{Accepted, accepted}
 use Rattle.paragraph.specs.Stream.{recordsIn}
 use Rattle.paragraph.proofs.StreamLaws.{in-read}
 use Rattle.section.specs.Parents.{strayFrom, strayOf}
@@ -43,19 +43,28 @@ module _ (n : ℕ) (o : Option ℕ) (rest : Option Refusal) (x : Stray) (is : x 
 
 -- ---- read's answer, then the rules
 
-module _ (s : List ℕ) (room : ℕ) (x : Answer) (is : x ≡ readAnswer s room) where
-  pub answer-rules : (n : ℕ) (y : Answer) → Bytes s → x ≡ A.Accepted n
+module _ (s : List ℕ) (room : ℕ) where
+  pub answer-rules : (n : ℕ) (y : Answer) → Bytes s → readAnswer s room ≡ A.Accepted n
       → y ≡ settled n (strayOr (strayFrom 0 [] (readAll s .recs)) (paragraphsFault 0 (recordsIn s))) → y ≡ sectionAnswer s room
   unfolding sectionAnswer sectionFault
   answer-rules n y bs e q =
-      let k = accepted s room n (sym is ∙ e) in
+      let k = accepted s room n e in
       q
       ∙ ap (λ (l : List Rec). settled n (strayOr (strayFrom 0 [] (readAll s .recs)) (paragraphsFault 0 l))) (in-read s bs (k .whole))
-      ∙ ap (λ (a : Answer). afterRead a (sectionFault (readAll s .recs))) (sym e ∙ is)
+      ∙ ap (λ (a : Answer). afterRead a (sectionFault (readAll s .recs))) (sym e)
 
-  pub answer-refused : (r : Refusal) → x ≡ A.Refused r → A.Refused r ≡ sectionAnswer s room
+  pub answer-refused : (f : Refusal) → readAnswer s room ≡ A.Refused f → A.Refused f ≡ sectionAnswer s room
   unfolding sectionAnswer
-  answer-refused r e = ap (λ (a : Answer). afterRead a (sectionFault (readAll s .recs))) (sym e ∙ is)
+  answer-refused f e = ap (λ (a : Answer). afterRead a (sectionFault (readAll s .recs))) (sym e)
+
+  -- where there are more records than room, read's answer is a refusal
+  crowded : (n : ℕ) → Accepted s n n → room < n → (a : Answer) → readAnswer s room ≡ a → a ≡ afterRead a (sectionFault (readAll s .recs))
+  crowded n k h (A.Accepted m) e = absurd (omega (arith, k .count, accepted s room m e .fits))
+  crowded n k h (A.Refused f) e = refl
+
+  pub answer-crowded : (n : ℕ) (y : Answer) → readAnswer s n ≡ A.Accepted n → room < n → y ≡ readAnswer s room → y ≡ sectionAnswer s room
+  unfolding sectionAnswer
+  answer-crowded n y e h q = q ∙ crowded n (accepted s n n e) h (readAnswer s room) refl
 
 -- ---- what an acceptance says: read accepts too, and enters all records
 

@@ -3,7 +3,7 @@ use Prim.Native.Nat.{ℕ, suc, _+_, _-_, _*_, _≤_, _<_, min}
 use native.Mathlib.Omega.{arith}
 use mathlib.Core.Path.{_≡_, refl, sym, ap, ap₂, _∙_, subst}
 use mathlib.Core.Logic.{_⊎_, inl, inr}
-use mathlib.Core.Bool.{Bool, true, false}
+use mathlib.Core.Bool.{Bool, true, false, cond}
 use mathlib.Core.List.{List, []}
 use lib.ListN.{length, set, drop}
 use borrow.Author.Tests.{lt-ltb, le-ltb, le-leb, lt-leb, eq-eqb, ne-eqb}
@@ -13,7 +13,7 @@ use Rattle.records.specs.declared.header.Record.{Record}
 use Rattle.records.specs.declared.header.Ahead.{Ahead}
 use Rattle.records.specs.declared.header.Ahead.the-variants as N
 use Rattle.records.proofs.ReadingLaws.{NoRecord}
-use Rattle.text.proofs.Cases.{lt-or}
+use Rattle.text.proofs.Cases.{lt-or, eq-or}
 use lib.Dec.{ltb}
 use Rattle.paragraph.specs.Stream.{recordsIn}
 use Rattle.paragraph.specs.Rules.{firstFault}
@@ -26,7 +26,7 @@ use Rattle.paragraph.specs.declared.finding.Finding.{Finding}
 use Rattle.paragraph.specs.declared.finding.Finding.the-variants as G
 use Rattle.paragraph.proofs.StreamLaws.{Read, none-left}
 use Rattle.section.specs.Windows.{between}
-use Rattle.section.specs.Slots.{headOf, entry, foundAhead, partFound, partsOf, slotFault, slotsFault, Ended, more, noted, fresh, notedIn, takenIn, ownFault}
+use Rattle.section.specs.Slots.{headOf, entry, foundAhead, partFound, partsOf, slotFault, slotsFault, Ended, more, noted, fresh, notedIn, takenIn, ownFault, heldIn}
 use Rattle.section.proofs.FirstLaws.{between-in, between-low, between-high, between-out}
 
 -- ---- what an entry names
@@ -171,6 +171,45 @@ module _ (lo : ℕ) (slots : List ℕ) (tag n place : ℕ) where
 
     pub own-ended : (s : List ℕ) → (lo ≤ n → n < lo + 16 → Ended s slots (6 * (n - lo))) → lo ≤ n → m < 16 → Ended s slots (6 * m)
     own-ended s k h q = subst (λ (i : ℕ). Ended s slots (6 * i)) (sym is) (k h (omega arith))
+
+-- ---- a paragraph stands in a slot, or none
+
+module _ (lo n : ℕ) (slots : List ℕ) where
+  pub held-low : n < lo → false ≡ heldIn lo slots n
+  unfolding heldIn
+  held-low h = rw (between-low lo (lo + 16) n h)
+
+  pub held-high : (m : ℕ) → m ≡ n - lo → lo ≤ n → 16 ≤ m → false ≡ heldIn lo slots n
+  unfolding heldIn
+  held-high m is h q = rw (in-high lo n m is h q)
+
+  pub held-by : (m : ℕ) → m ≡ n - lo → lo ≤ n → m < 16 → ltb 0 (headOf slots (6 * m)) ≡ heldIn lo slots n
+  unfolding heldIn
+  held-by m is h q = rw (in-window lo n m is h q, is)
+
+  pub held-in : heldIn lo slots n ≡ true → (lo ≤ n) × (n < lo + 16)
+  unfolding heldIn
+  held-in e = go (lt-or n lo) (lt-or n (lo + 16))
+    where
+      go : (n < lo) ⊎ (lo ≤ n) → (n < lo + 16) ⊎ (lo + 16 ≤ n) → (lo ≤ n) × (n < lo + 16)
+      go (inl a) b = absurd (let z : false ≡ true = sym (rw (between-low lo (lo + 16) n a)) ∙ e in let y : _≡_ {A = ℕ} 0 1 = cc in omega arith)
+      go (inr a) (inr b) = absurd (let z : false ≡ true = sym (rw (between-high lo (lo + 16) n a b)) ∙ e in let y : _≡_ {A = ℕ} 0 1 = cc in omega arith)
+      go (inr a) (inl b) = (a, b)
+
+  pub held-fault : (s : List ℕ) (m : ℕ) → m ≡ n - lo → heldIn lo slots n ≡ true → slotFault s (headOf slots (6 * m)) ≡ ownFault s lo slots n
+  held-fault s m is e = let k = held-in e in own-inside lo slots 0 n 0 m is (between-in lo (lo + 16) n (k .0) (k .1)) s
+
+  -- where none stands, nothing is at fault
+  pub unheld : (s : List ℕ) → heldIn lo slots n ≡ false → ownFault s lo slots n ≡ length s
+  unfolding heldIn ownFault
+  unheld s e = go (between lo (lo + 16) n) refl (eq-or (headOf slots (6 * (n - lo))) 0)
+    where
+      go : (b : Bool) → between lo (lo + 16) n ≡ b → (headOf slots (6 * (n - lo)) ≡ 0) ⊎ (headOf slots (6 * (n - lo)) ≡ 0 → ⊥)
+          → cond (between lo (lo + 16) n) (slotFault s (headOf slots (6 * (n - lo)))) (length s) ≡ length s
+      go false q h = rw q
+      go true q (inl h) = rw q (sym (fault-empty s (headOf slots (6 * (n - lo))) h))
+      go true q (inr h) =
+          absurd (let z : true ≡ false = sym (rw (q, lt-ltb 0 (headOf slots (6 * (n - lo))) (omega (arith, h)))) ∙ e in let y : _≡_ {A = ℕ} 0 1 = cc in omega arith)
 
 -- ---- a record outside the window
 

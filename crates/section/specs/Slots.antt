@@ -2,7 +2,7 @@
 -- `paragraphsFault` (Section), and `proofs/GatherLaws.antt` says that a slot holds the parts of its paragraph. A slot is six entries for the
 -- tags 66 to 71 of one paragraph: where its header stands, and one more; where its text, shapes, layout and marks stand, and one more; and how
 -- many control headers it has. 0 is none. In a window from lo on, the slot of the paragraphs whose children are at level n begins at 6 * (n - lo).
-use Prim.Native.Nat.{ℕ, zero, suc, _+_, _-_, _*_, _≤_, _<_, min, max}
+use Prim.Native.Nat.{ℕ, zero, suc, _+_, _-_, _*_, min}
 use mathlib.Core.Path.{_≡_}
 use mathlib.Core.Bool.{Bool, true, false, cond, _&&_}
 use mathlib.Core.List.{List, [], _∷_}
@@ -102,11 +102,9 @@ takenIn lo slots tag below place =
 unfoldable pub ownFault : List ℕ → ℕ → List ℕ → ℕ → ℕ
 ownFault s lo slots below = cond (between lo (lo + 16) below) (slotFault s (headOf slots (6 * (below - lo)))) (length s)
 
--- where a record was noted, the paragraph in its own slot has ended
-abbrev pub Ready : List ℕ → ℕ → List ℕ → ℕ → ℕ → ℕ → Type 0
-Ready s lo slots tag level place =
-    (length (notedIn lo slots tag level place) ≡ 96)
-    × (lo ≤ level + 1 → level + 1 < lo + 16 → Ended s (notedIn lo slots tag level place) (6 * (level + 1 - lo)))
+-- a paragraph stands in the slot of children at level `below`, where the window has one
+unfoldable pub heldIn : ℕ → List ℕ → ℕ → Bool
+heldIn lo slots below = between lo (lo + 16) below && ltb 0 (headOf slots (6 * (below - lo)))
 
 -- the place of the first paragraph at fault whose children's level is from lo up to and not including hi, and else the length of the stream
 unfoldable pub faultIn : ℕ → ℕ → List ℕ → ℕ
@@ -115,8 +113,3 @@ faultIn lo hi s = firstIn below faulty lo hi (length s) 0 [] (recordsIn s)
 -- what was found of a paragraph is what it is at fault with; at the end of the stream nothing is
 abbrev pub Known : List ℕ → Blamed → Type 0
 Known s j = j .finding ≡ firstFault (recordsIn (drop (j .at .0) s))
-
--- the greatest level, from m on
-unfoldable pub deepestFrom : ℕ → List Rec → ℕ
-deepestFrom m [] = m
-deepestFrom m (r ∷ rs) = deepestFrom (max m (r .level)) rs

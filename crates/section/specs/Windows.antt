@@ -1,6 +1,6 @@
 -- A mirror of the code of the passes by windows, of which nothing has to be believed: a pass judges the records whose depth is in a window, and
 -- windows are joined (`first-join` in proofs/FirstLaws.antt).
-use Prim.Native.Nat.{ℕ, _+_, min}
+use Prim.Native.Nat.{ℕ, _+_, min, max}
 use mathlib.Core.Bool.{Bool, cond, _&&_}
 use mathlib.Core.List.{List, [], _∷_}
 use lib.Dec.{ltb, leb}
@@ -16,3 +16,8 @@ unfoldable pub firstIn : (Rec → ℕ) → (List Rec → Rec → List Rec → Bo
 firstIn depth test lo hi e at earlier [] = e
 firstIn depth test lo hi e at earlier (r ∷ rs) =
     min (cond (between lo hi (depth r) && test earlier r rs) at e) (firstIn depth test lo hi e (at + size r) (r ∷ earlier) rs)
+
+-- the greatest level, from m on
+unfoldable pub deepestFrom : ℕ → List Rec → ℕ
+deepestFrom m [] = m
+deepestFrom m (r ∷ rs) = deepestFrom (max m (r .level)) rs

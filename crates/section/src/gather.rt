@@ -1,6 +1,5 @@
 // The paragraphs of a window of 16 levels in one pass: where the parts of each stand is noted until it ends, and then it is judged. A section
 // of ten levels takes one pass, however its paragraphs are nested; one of 1,000 takes sixty-three.
-use crate::windows::deeper;
 use crate::windows::inside;
 use judgement::head_fault;
 use numbers::wide;
@@ -19,8 +18,8 @@ ghost use mathlib.Core.List.{List};
 ghost use lib.ListN.{length, getD};
 ghost use Rattle.records.specs.Records.{limit};
 ghost use Rattle.records.specs.Reading.{readAll};
-ghost use Rattle.paragraph.specs.Stream.{recordsIn};
-ghost use Rattle.section.specs.Slots.{headOf, partFound, partsOf, slotFault, slotsFault, Ended, more, noted, fresh, notedIn, takenIn, ownFault, deepestFrom, faultIn, Known, Ready};
+ghost use Rattle.section.specs.Windows.{deepestFrom};
+ghost use Rattle.section.specs.Slots.{headOf, partFound, partsOf, slotFault, slotsFault, Ended, more, noted, fresh, notedIn, takenIn, heldIn, faultIn, Known};
 
 // The levels of a window; a slot for each, of six entries.
 const LEVELS: u32 = 16;
@@ -166,46 +165,38 @@ fn note_child(slots: &mut [u32], lo: u32, tag: u32, level: u32, place: u32)
     note(slots, SLOT * i, tag, place);
 }
 
-// A record takes its own slot, where the window has one for it: the paragraph that stood there has ended, and is judged.
-fn take_own(s: &[u8], slots: &mut [u32], lo: u32, tag: u32, below: u32, place: u32) -> Blamed
+// A record takes its own slot, where the window has one for it.
+fn take_own(slots: &mut [u32], lo: u32, tag: u32, below: u32, place: u32)
     requires { ⌜ length (now slots) ≡ 96 ⌝ }
-    requires { ⌜ (lo ≤ below → below < lo + 16 → Ended (now s) (now slots) (6 * (below - lo))) ⌝ }
-    ensures { λ r. ⌜ (r .at .0 ≡ ownFault (now (s .entry)) lo (now (slots .entry)) below) × Known (now (s .entry)) r × (now (slots .exit) ≡ takenIn lo (now (slots .entry)) tag below place) ⌝ }
+    ensures { λ _. ⌜ now (slots .exit) ≡ takenIn lo (now (slots .entry)) tag below place ⌝ }
 {
     if below < lo {
-        return none_at_fault(s);
+        return;
     }
     let i = wide(below - lo);
     if SLOTS <= i {
-        return none_at_fault(s);
+        return;
     }
-    let fault = judge_slot(s, slots, SLOT * i);
     if tag == Kind::PARAGRAPH_HEADER {
         renew(slots, SLOT * i, place);
     } else {
         renew(slots, SLOT * i, 0);
     }
-    fault
 }
 
-// A record is noted with its parent's paragraph, and takes its own slot.
-fn enter(
-    s: &[u8],
-    slots: &mut [u32],
-    lo: u32,
-    tag: u32,
-    level: u32,
-    at: Offset,
-    first: Blamed,
-) -> Blamed
-    requires { ⌜ (length (now slots) ≡ 96) × (level < 1024) × (at .0 < 16777216) ⌝ }
-    requires { ⌜ ((i : ℕ) → getD (now slots) i 0 < 4294967295) ⌝ }
-    requires { ⌜ Ready (now s) lo (now slots) tag level (at .0 + 1) ⌝ }
-    ensures { λ r. ⌜ (r .at .0 ≡ min (first .at .0) (ownFault (now (s .entry)) lo (notedIn lo (now (slots .entry)) tag level (at .0 + 1)) (level + 1))) × (Known (now (s .entry)) first → Known (now (s .entry)) r) × (now (slots .exit) ≡ takenIn lo (notedIn lo (now (slots .entry)) tag level (at .0 + 1)) tag (level + 1) (at .0 + 1)) ⌝ }
+// A paragraph stands in the slot that a record takes: the record ends it.
+fn held(slots: &[u32], lo: u32, below: u32) -> bool
+    requires { ⌜ length (now slots) ≡ 96 ⌝ }
+    ensures { λ r. ⌜ r ≡ heldIn lo (now (slots .entry)) below ⌝ }
 {
-    let place = (at.0 + 1) as u32;
-    note_child(slots, lo, tag, level, place);
-    sooner(first, take_own(s, slots, lo, tag, level + 1, place))
+    if below < lo {
+        return false;
+    }
+    let i = wide(below - lo);
+    if SLOTS <= i {
+        return false;
+    }
+    0 < slots[SLOT * i]
 }
 
 // The paragraphs that are in their slots where the stream ends.
@@ -223,47 +214,43 @@ fn judge_slots(s: &[u8], slots: &[u32]) -> Blamed
     first
 }
 
-// What one pass finds: the first paragraph at fault of those in its window, and how deep the records go.
-pub struct Gathered {
-    pub first: Blamed,
-    pub deepest: u32,
-}
-
-fn gather(s: &[u8], lo: u32) -> Gathered
+// One pass: the first paragraph at fault of those in the window from lo on. A record is noted with its parent's paragraph, and takes its own slot;
+// the paragraph that stood there has ended, and is judged.
+fn gather(s: &[u8], lo: u32) -> Blamed
     requires { ⌜ (length (now s) ≤ limit) × (readAll (now s) .stop ≡ none) × (lo ≤ 1024) ⌝ }
-    ensures { λ r. ⌜ (r .first .at .0 ≡ faultIn lo (lo + 16) (now (s .entry))) × Known (now (s .entry)) (r .first) × (r .deepest ≡ deepestFrom 0 (recordsIn (now (s .entry)))) ⌝ }
+    ensures { λ r. ⌜ (r .at .0 ≡ faultIn lo (lo + 16) (now (s .entry))) × Known (now (s .entry)) r ⌝ }
 {
     let mut slots = [0u32; ENTRIES];
     let end = lo + LEVELS + 1;
     let mut at = Offset(0);
     let mut first = none_at_fault(s);
-    let mut deepest: u32 = 0;
     loop {
         let Ahead::Record(r) = record_at(s, at, 1023) else {
             break;
         };
-        if inside(lo, end, r.level + 1) {
-            first = enter(s, &mut slots, lo, r.tag, r.level, at, first);
+        let below = r.level + 1;
+        if inside(lo, end, below) {
+            let place = (at.0 + 1) as u32;
+            note_child(&mut slots, lo, r.tag, r.level, place);
+            if held(&slots, lo, below) {
+                first = sooner(first, judge_slot(s, &slots, SLOT * wide(below - lo)));
+            }
+            take_own(&mut slots, lo, r.tag, below, place);
         }
-        deepest = deeper(deepest, r.level);
         at = r.next;
     }
-    first = sooner(first, judge_slots(s, &slots));
-    Gathered { first, deepest }
+    sooner(first, judge_slots(s, &slots))
 }
 
 // The first paragraph at fault of all: a window behind the other, as deep as the records go.
-pub fn first_at_fault(s: &[u8]) -> Blamed
-    requires { ⌜ (length (now s) ≤ limit) × (readAll (now s) .stop ≡ none) ⌝ }
+pub fn first_at_fault(s: &[u8], deepest: u32) -> Blamed
+    requires { ⌜ (length (now s) ≤ limit) × (readAll (now s) .stop ≡ none) × (deepest ≡ deepestFrom 0 (readAll (now s) .recs)) × (deepest < 1024) ⌝ }
     ensures { λ r. ⌜ (r .at .0 ≡ faultIn 0 1025 (now (s .entry))) × Known (now (s .entry)) r ⌝ }
 {
-    let g = gather(s, 0);
-    let mut first = g.first;
+    let mut first = gather(s, 0);
     let mut lo: u32 = LEVELS;
-    while lo <= g.deepest + 1 {
-        let h = gather(s, lo);
-        let other = h.first;
-        first = sooner(first, other);
+    while lo <= deepest + 1 {
+        first = sooner(first, gather(s, lo));
         lo = lo + LEVELS;
     }
     first

@@ -1,22 +1,23 @@
-// Where records 67 to 70 stand: rule 9. A pass keeps 64 bytes on the stack, one for each level of a window; only a stream that goes deeper is
-// passed again, for the next 64 levels.
-use crate::windows::deeper;
+// Where records 67 to 70 stand: rule 9. A pass keeps 256 bytes on the stack, one for each level of a window; the first is the reading's own
+// (opening), and only a stream that goes deeper is passed again, for the next 256 levels.
 use crate::windows::inside;
+use numbers::lesser;
 use records::Ahead;
 use records::Kind;
 use records::Offset;
 use records::record_at;
 ghost use mathlib.Core.Path.{_≡_};
 ghost use mathlib.Core.List.{[]};
-ghost use Prim.Native.Nat.{_≤_, _<_};
-ghost use lib.ListN.{getD, set};
-ghost use Rattle.records.specs.Reading.{readAll};
+ghost use Prim.Native.Nat.{_+_, _≤_, _<_};
+ghost use lib.ListN.{length, getD, set};
+ghost use Rattle.records.specs.Reading.{offset, readAll};
 ghost use Rattle.section.specs.Parents.{leaf, strayFrom, strayOf};
 ghost use Rattle.section.specs.Seats.{ownCode, bitOf, seatLeaf, seatOf};
-ghost use Rattle.section.specs.Sweeps.{indexIn, Sweeps};
+ghost use Rattle.section.specs.Windows.{deepestFrom};
+ghost use Rattle.section.specs.Sweeps.{indexIn, isStray, seatIn, seatedIn, strayIn};
 
 // The levels of one window.
-const LEVELS: u32 = 64;
+pub const LEVELS: u32 = 256;
 
 // What becomes of the number kept for a level where a record stands there.
 pub enum Seat {
@@ -28,13 +29,6 @@ pub enum Seat {
 pub enum Stray {
     Nowhere,
     At(Offset),
-}
-
-// What a pass finds: the earliest stray whose level is in its window, or the stream's length where there is none; and a level that no record
-// before it exceeds.
-pub struct Swept {
-    pub stray: Offset,
-    pub deepest: u32,
 }
 
 fn is_leaf(tag: u32) -> bool
@@ -120,58 +114,58 @@ fn keep(table: &mut [u8], i: usize, code: u8)
     }
 }
 
-// One pass with a number for each level of the window from lo on: what the parent of a record at that level is, and which of 67 to 70 it has. A
-// record costs no more than its header where neither its level nor its children's is in the window.
-fn sweep(s: &[u8], lo: u32) -> Swept
+// Whether 9 names a record whose level is in the window from lo on. If not, the record takes its seat, and the number for its children is kept.
+pub fn strays(table: &mut [u8], lo: u32, tag: u32, level: u32) -> bool
+    requires { ⌜ level < 1024 ⌝ }
+    ensures { λ r. ⌜ (r ≡ isStray (seatIn lo (now (table .entry)) tag level)) × (now (table .exit) ≡ seatedIn lo (now (table .entry)) tag level) ⌝ }
+{
+    let i = index_in(lo, level);
+    match take_seat(kept(table, i), tag) {
+        Seat::Stray => true,
+        Seat::Seated(code) => {
+            keep(table, i, code);
+            keep(table, index_in(lo, level + 1), own_code(tag));
+            false
+        }
+    }
+}
+
+// One pass with a number for each level of the window from lo on: what the parent of a record at that level is, and which of 67 to 70 it has. It
+// gives the earliest stray whose level is in the window, or the stream's length. A record costs no more than its header where neither its level nor
+// its children's is in the window.
+fn sweep(s: &[u8], lo: u32) -> Offset
     requires { ⌜ lo < 1024 ⌝ }
-    ensures { λ r. ⌜ Sweeps (now (s .entry)) lo r ⌝ }
+    ensures { λ r. ⌜ r ≡ offset (strayIn lo (lo + 256) (length (now (s .entry))) 0 [] (readAll (now (s .entry)) .recs)) ⌝ }
 {
     let mut table = [16u8; LEVELS as usize];
     let end = lo + LEVELS + 1;
     let mut at = Offset(0);
     let mut cap: u32 = 0;
-    let mut deepest: u32 = 0;
     loop {
         let Ahead::Record(r) = record_at(s, at, cap) else {
-            return Swept {
-                stray: Offset(s.len()),
-                deepest,
-            };
+            return Offset(s.len());
         };
         cap = r.level + 1;
         if inside(lo, end, cap) {
-            let i = index_in(lo, r.level);
-            match take_seat(kept(&table, i), r.tag) {
-                Seat::Stray => {
-                    return Swept { stray: at, deepest };
-                }
-                Seat::Seated(code) => {
-                    keep(&mut table, i, code);
-                }
+            if strays(&mut table, lo, r.tag, r.level) {
+                return at;
             }
-            keep(&mut table, index_in(lo, cap), own_code(r.tag));
         }
-        deepest = deeper(deepest, r.level);
         at = r.next;
     }
 }
 
-// A pass for each window down to the deepest level.
-pub fn find_stray(s: &[u8]) -> Stray
+// The earliest stray of all, by that of the first window: a pass for each further window down to the deepest level.
+pub fn find_stray(s: &[u8], first: Offset, deepest: u32) -> Stray
+    requires { ⌜ (first ≡ offset (strayIn 0 256 (length (now s)) 0 [] (readAll (now s) .recs))) × (deepest ≡ deepestFrom 0 (readAll (now s) .recs)) × (deepest < 1024) ⌝ }
     ensures { λ r. ⌜ r ≡ strayOf (strayFrom 0 [] (readAll (now (s .entry)) .recs)) ⌝ }
 {
-    let mut place = s.len();
-    let mut lo: u32 = 0;
-    loop {
-        let swept = sweep(s, lo);
-        let stray = swept.stray;
-        if stray.0 < place {
-            place = stray.0;
-        }
+    let mut place = first.0;
+    let mut lo: u32 = LEVELS;
+    while lo <= deepest {
+        let stray = sweep(s, lo);
+        place = lesser(place, stray.0);
         lo = lo + LEVELS;
-        if swept.deepest < lo {
-            break;
-        }
     }
     if place < s.len() {
         Stray::At(Offset(place))

@@ -115,34 +115,33 @@ fn bench_host() {
 }
 
 /// So many levels are judged in one pass: for rule 9, and for the paragraphs.
-const WINDOWS: [u32; 2] = [64, 16];
+const WINDOWS: [u32; 2] = [256, 16];
 
-/// What rule 9 and the paragraphs of chains cost, each by itself, in bare passes. Behind the same records stands a piece
-/// of a header, so that check ends with its reading, or a record that 9 names, so that it ends with rule 9.
+/// What rule 9 and the paragraphs of chains cost, each by itself, in bare passes. A read without room is the reading
+/// alone; where a record that 9 names stands behind all others, check ends with rule 9.
 fn bench_depth(body: usize) {
-    let deep = shape::small(LIMIT - 4, body, shape::CHAINS);
-    let [cut, stray] = [&shape::CUT[..], &shape::STRAY].map(|end| [&deep, end].concat());
-    for (stream, number, place) in [(&cut, 2, cut.len()), (&stray, 9, deep.len())] {
-        let answers = pair(services::check, stream).map(|mut call| call());
-        assert_eq!(answers, [answer(number, place, 0); 2]);
-    }
+    let deep = shape::small(LIMIT - shape::STRAY.len(), body, shape::CHAINS);
+    let stray = [&deep[..], &shape::STRAY].concat();
+    let answers = pair(services::check, &stray).map(|mut call| call());
+    assert_eq!(answers, [answer(9, deep.len(), 0); 2]);
     let check = |stream| services::check(&Native, stream);
-    let [reading, nine, all, bare] = medians([&mut check(&cut), &mut check(&stray), &mut check(&deep), &mut || {
-        bare_pass(black_box(&deep))
-    }]);
+    let [reading, nine, all, bare] = medians([
+        &mut services::reading(&Native, &stray),
+        &mut check(&stray),
+        &mut check(&deep),
+        &mut || bare_pass(black_box(&stray)),
+    ]);
     println!(
-        "chains of {} levels, bodies of {body} bytes, {}: reading {reading:.3} ms, bare pass {bare:.3} ms",
+        "chains of {} levels, bodies of {body} bytes, {}: bare pass {bare:.3} ms, reading {reading:.3} ms",
         shape::CHAIN,
-        size(deep.len())
+        size(stray.len())
     );
     let parts = [("rule 9", nine - reading), ("the paragraphs", all - nine)];
     for ((part, took), levels) in parts.into_iter().zip(WINDOWS) {
-        let passes = shape::CHAIN.div_ceil(levels);
-        let bound = f64::from(shape::CHAIN) / f64::from(levels) + 1.0;
         println!(
-            "  {part} alone: {took:.3} ms in {passes} passes: {:.1} bare passes, {:.1} readings; levels / window + 1 is {bound:.1}",
+            "  {part} alone, in windows of {levels} levels: {took:.3} ms, that is {:.1} bare passes; levels / window + 1 is {:.1}",
             took / bare,
-            took / reading
+            f64::from(shape::CHAIN) / f64::from(levels) + 1.0
         );
     }
 }

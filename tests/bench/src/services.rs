@@ -71,6 +71,15 @@ pub fn read<'a>(subject: &'a dyn Subject, stream: &'a [u8]) -> Call<'a> {
     read_of(Kind::Records, subject, stream)
 }
 
+/// A read whose lists have no room: it goes over the headers, answers 7 and enters nothing.
+pub fn reading<'a>(subject: &'a dyn Subject, stream: &'a [u8]) -> Call<'a> {
+    let mut lists: [Vec<u32>; LISTS] = [(); LISTS].map(|()| Vec::new());
+    Box::new(move || {
+        let rooms = lists.each_mut().map(|list| Room::of(list));
+        subject.read(Kind::Records, Given::of(stream), rooms)
+    })
+}
+
 pub fn section_read<'a>(subject: &'a dyn Subject, stream: &'a [u8]) -> Call<'a> {
     read_of(Kind::Section, subject, stream)
 }

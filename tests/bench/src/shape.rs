@@ -83,9 +83,6 @@ pub const CHAIN: u32 = 1000;
 pub const FLAT: Levels = |_| 0;
 pub const CHAINS: Levels = |index| index as u32 % CHAIN;
 
-/// A piece of a header, where 2 ends the reading.
-pub const CUT: [u8; 3] = [0; 3];
-
 /// A record 67 at level 0, which 9 names.
 pub const STRAY: [u8; 4] = [67, 0, 0, 0];
 
