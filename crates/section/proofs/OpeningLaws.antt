@@ -25,7 +25,7 @@ use Rattle.section.proofs.StrayLaws.{table-long, Placing, placing-start
 
 pub data Watching (s table : List ℕ) (at cap stray : ℕ) : Type 0 where
   watches : stray ≡ length s → Placing s 0 table at cap → Watching s table at cap stray
-  knows : stray ≤ at → stray ≡ strayIn 0 256 (length s) 0 [] (readAll s .recs) → Watching s table at cap stray
+  knows : stray ≤ at → stray ≡ strayIn 0 200 (length s) 0 [] (readAll s .recs) → Watching s table at cap stray
 
 module _ {s table : List ℕ} {at cap : ℕ} {h : Record} (d : Here s at cap h) (new : List ℕ) where
   seated-by : {stray : ℕ} → Watching s table at cap stray → false ≡ isStray (seatIn 0 table (h .tag) (h .level)) → new ≡ seatedIn 0 table (h .tag) (h .level)
@@ -41,7 +41,7 @@ module _ {s table : List ℕ} {at cap : ℕ} {h : Record} (d : Here s at cap h) 
   stray-by {stray} (knows l e) b = knows (omega (arith, d .next-is)) (let z : min stray at ≡ stray = omega arith in z ∙ e)
 
 watching-end : {s table : List ℕ} {at cap stray : ℕ} → Watching s table at cap stray → readFrom cap 0 (drop at s) .recs ≡ []
-    → stray ≡ strayIn 0 256 (length s) 0 [] (readAll s .recs)
+    → stray ≡ strayIn 0 200 (length s) 0 [] (readAll s .recs)
 watching-end (watches e k) q = e ∙ placing-end k q
 watching-end (knows l e) q = e
 
@@ -49,11 +49,11 @@ watching-end (knows l e) q = e
 
 pub record Opening (s table : List ℕ) (at cap n stray deepest : ℕ) : Type 0 where
   pub scans : (room : ℕ) → (over : ℕ) × Scanning s room at cap n over
-  pub long : length table ≡ 256
+  pub long : length table ≡ 200
   pub watch : Watching s table at cap stray
   pub deep : deepestFrom 0 (readAll s .recs) ≡ deepestFrom deepest (readFrom cap 0 (drop at s) .recs)
 
-pub opening-start : (s table : List ℕ) → length s ≤ limit → length table ≡ 256 → getD table 0 0 ≡ 16 → Opening s table 0 0 0 (length s) 0
+pub opening-start : (s table : List ℕ) → length s ≤ limit → length table ≡ 200 → getD table 0 0 ≡ 16 → Opening s table 0 0 0 (length s) 0
 unfolding readAll
 opening-start s table h l e =
     record {

@@ -24,34 +24,34 @@ use Rattle.section.proofs.FirstLaws.{between-in, between-low, between-h
 -- ---- a record is named exactly where its level is in the window and rule 9 names it
 
 abbrev named : ℕ → Rec → List Rec → Bool
-named lo r earlier = between lo (lo + 256) (r .level) && misplaced r earlier
+named lo r earlier = between lo (lo + 200) (r .level) && misplaced r earlier
 
 data Judging (lo code : ℕ) (r : Rec) (earlier : List Rec) : Type 0 where
   names : seatOf code (r .tag) ≡ T.Stray → named lo r earlier ≡ true → Judging lo code r earlier
   passes : (c : ℕ) → seatOf code (r .tag) ≡ T.Seated c → named lo r earlier ≡ false
-      → (indexIn lo (r .level) < 256 → Speaks c (r .level) (r ∷ earlier)) → Judging lo code r earlier
+      → (indexIn lo (r .level) < 200 → Speaks c (r .level) (r ∷ earlier)) → Judging lo code r earlier
 
-module _ (lo : ℕ) (table : List ℕ) (r : Rec) (earlier : List Rec) (long : length table ≡ 256) where
+module _ (lo : ℕ) (table : List ℕ) (r : Rec) (earlier : List Rec) (long : length table ≡ 200) where
   abbrev code : ℕ
   code = getD table (indexIn lo (r .level)) 0
 
-  judged-in : between lo (lo + 256) (r .level) ≡ true → Seating code r earlier → Judging lo code r earlier
+  judged-in : between lo (lo + 200) (r .level) ≡ true → Seating code r earlier → Judging lo code r earlier
   judged-in b (strays e m) = names e (rw b m)
   judged-in b (sits c e m w) = passes c e (rw b m) (λ _. w)
 
   -- outside the window the number is 0
-  judged-out : between lo (lo + 256) (r .level) ≡ false → 256 ≤ indexIn lo (r .level) → Judging lo code r earlier
+  judged-out : between lo (lo + 200) (r .level) ≡ false → 200 ≤ indexIn lo (r .level) → Judging lo code r earlier
   judged-out b h =
       passes (cond (leaf (r .tag)) (bitOf (r .tag)) 0)
       (ap (λ (c : ℕ). seatOf c (r .tag)) (List·getD-eq-default table 0 (omega arith)) ∙ seat-free (r .tag)) (rw b) (λ q. absurd (omega arith))
 
-  judging : (indexIn lo (r .level) < 256 → Speaks code (r .level) earlier) → Judging lo code r earlier
-  judging speaks = go (lt-or (r .level) lo) (lt-or (r .level) (lo + 256))
+  judging : (indexIn lo (r .level) < 200 → Speaks code (r .level) earlier) → Judging lo code r earlier
+  judging speaks = go (lt-or (r .level) lo) (lt-or (r .level) (lo + 200))
     where
-      go : (r .level < lo) ⊎ (lo ≤ r .level) → (r .level < lo + 256) ⊎ (lo + 256 ≤ r .level) → Judging lo code r earlier
-      go (inl a) b = judged-out (between-low lo (lo + 256) (r .level) a) (omega arith)
-      go (inr a) (inl b) = judged-in (between-in lo (lo + 256) (r .level) a b) (seating code r earlier (speaks (omega arith)))
-      go (inr a) (inr b) = judged-out (between-high lo (lo + 256) (r .level) a b) (omega arith)
+      go : (r .level < lo) ⊎ (lo ≤ r .level) → (r .level < lo + 200) ⊎ (lo + 200 ≤ r .level) → Judging lo code r earlier
+      go (inl a) b = judged-out (between-low lo (lo + 200) (r .level) a) (omega arith)
+      go (inr a) (inl b) = judged-in (between-in lo (lo + 200) (r .level) a b) (seating code r earlier (speaks (omega arith)))
+      go (inr a) (inr b) = judged-out (between-high lo (lo + 200) (r .level) a b) (omega arith)
 
   -- the numbers after a record
   module _ (c own : ℕ) where
@@ -61,34 +61,34 @@ module _ (lo : ℕ) (table : List ℕ) (r : Rec) (earlier : List Rec) (long : le
     abbrev after : List ℕ
     after = set seated (indexIn lo (r .level + 1)) own
 
-    after-below : (l : ℕ) → indexIn lo l < 256 → l < r .level → getD after (indexIn lo l) 0 ≡ getD table (indexIn lo l) 0
+    after-below : (l : ℕ) → indexIn lo l < 200 → l < r .level → getD after (indexIn lo l) 0 ≡ getD table (indexIn lo l) 0
     after-below l a q =
         getD-set-other seated (indexIn lo (r .level + 1)) (indexIn lo l) own 0 (λ z. omega arith)
         ∙ getD-set-other table (indexIn lo (r .level)) (indexIn lo l) c 0 (λ z. omega arith)
 
-    after-here : indexIn lo (r .level) < 256 → getD after (indexIn lo (r .level)) 0 ≡ c
+    after-here : indexIn lo (r .level) < 200 → getD after (indexIn lo (r .level)) 0 ≡ c
     after-here a =
         getD-set-other seated (indexIn lo (r .level + 1)) (indexIn lo (r .level)) own 0 (λ z. omega arith)
         ∙ getD-set-same table (indexIn lo (r .level)) c 0 (omega arith)
 
-    after-own : indexIn lo (r .level + 1) < 256 → getD after (indexIn lo (r .level + 1)) 0 ≡ own
+    after-own : indexIn lo (r .level + 1) < 200 → getD after (indexIn lo (r .level + 1)) 0 ≡ own
     after-own a = getD-set-same seated (indexIn lo (r .level + 1)) own 0 (omega (arith, length-set table (indexIn lo (r .level)) c))
 
-    after-speaks : own ≡ ownCode (r .tag) → (indexIn lo (r .level) < 256 → Speaks c (r .level) (r ∷ earlier))
-        → ((l : ℕ) → indexIn lo l < 256 → l < r .level → Speaks (getD table (indexIn lo l) 0) l earlier)
-        → (l : ℕ) → indexIn lo l < 256 → l ≤ r .level + 1 → Speaks (getD after (indexIn lo l) 0) l (r ∷ earlier)
+    after-speaks : own ≡ ownCode (r .tag) → (indexIn lo (r .level) < 200 → Speaks c (r .level) (r ∷ earlier))
+        → ((l : ℕ) → indexIn lo l < 200 → l < r .level → Speaks (getD table (indexIn lo l) 0) l earlier)
+        → (l : ℕ) → indexIn lo l < 200 → l ≤ r .level + 1 → Speaks (getD after (indexIn lo l) 0) l (r ∷ earlier)
     after-speaks e here before l a q = go (lt-or l (r .level)) (eq-or l (r .level))
       where
         go : (l < r .level) ⊎ (r .level ≤ l) → (l ≡ r .level) ⊎ (l ≡ r .level → ⊥) → Speaks (getD after (indexIn lo l) 0) l (r ∷ earlier)
         go (inl k) w = subst (λ (x : ℕ). Speaks x l (r ∷ earlier)) (sym (after-below l a k)) (speaks-skip r k (before l a k))
         go (inr k) (inl w) =
             subst (λ (m : ℕ). Speaks (getD after (indexIn lo m) 0) m (r ∷ earlier)) (sym w)
-            (let i : indexIn lo (r .level) < 256 = subst (λ (m : ℕ). indexIn lo m < 256) w a in
+            (let i : indexIn lo (r .level) < 200 = subst (λ (m : ℕ). indexIn lo m < 200) w a in
             subst (λ (x : ℕ). Speaks x (r .level) (r ∷ earlier)) (sym (after-here i)) (here i))
         go (inr k) (inr w) =
             let z : l ≡ r .level + 1 = omega arith in
             subst (λ (m : ℕ). Speaks (getD after (indexIn lo m) 0) m (r ∷ earlier)) (sym z)
-            (subst (λ (x : ℕ). Speaks x (r .level + 1) (r ∷ earlier)) (sym (after-own (subst (λ (m : ℕ). indexIn lo m < 256) z a) ∙ e)) (speaks-own r earlier))
+            (subst (λ (x : ℕ). Speaks x (r .level + 1) (r ∷ earlier)) (sym (after-own (subst (λ (m : ℕ). indexIn lo m < 200) z a) ∙ e)) (speaks-own r earlier))
 
 -- ---- by what the code's steps gave: the index, the number kept there, and the seat
 
@@ -114,12 +114,12 @@ table-long lo table tag level = seated-long (seatIn lo table tag level) lo table
 
 pub record Placing (s : List ℕ) (lo : ℕ) (table : List ℕ) (at cap : ℕ) : Type 0 where
   pub earlier : List Rec
-  pub long : length table ≡ 256
-  pub speaks : (l : ℕ) → indexIn lo l < 256 → l ≤ cap → Speaks (getD table (indexIn lo l) 0) l earlier
-  pub rest : strayIn lo (lo + 256) (length s) 0 [] (readAll s .recs)
-      ≡ strayIn lo (lo + 256) (length s) at earlier (readFrom cap 0 (drop at s) .recs)
+  pub long : length table ≡ 200
+  pub speaks : (l : ℕ) → indexIn lo l < 200 → l ≤ cap → Speaks (getD table (indexIn lo l) 0) l earlier
+  pub rest : strayIn lo (lo + 200) (length s) 0 [] (readAll s .recs)
+      ≡ strayIn lo (lo + 200) (length s) at earlier (readFrom cap 0 (drop at s) .recs)
 
-pub placing-start : (s : List ℕ) (lo : ℕ) (table : List ℕ) → length table ≡ 256 → getD table 0 0 ≡ 16 → Placing s lo table 0 0
+pub placing-start : (s : List ℕ) (lo : ℕ) (table : List ℕ) → length table ≡ 200 → getD table 0 0 ≡ 16 → Placing s lo table 0 0
 unfolding readAll
 placing-start s lo table h e =
     record {
@@ -138,9 +138,9 @@ module _ {s : List ℕ} {lo : ℕ} {table : List ℕ} {at cap : ℕ} {h : Record
   abbrev behind : List Rec
   behind = readFrom (d .rec .level + 1) 0 (drop (at + size (d .rec)) s) .recs
 
-  here : strayIn lo (lo + 256) (length s) 0 [] (readAll s .recs) ≡ strayIn lo (lo + 256) (length s) at (k .earlier) (d .rec ∷ behind)
+  here : strayIn lo (lo + 200) (length s) 0 [] (readAll s .recs) ≡ strayIn lo (lo + 200) (length s) at (k .earlier) (d .rec ∷ behind)
   unfolding onto
-  here = k .rest ∙ ap (λ (x : Read). strayIn lo (lo + 256) (length s) at (k .earlier) (x .recs)) (d .next)
+  here = k .rest ∙ ap (λ (x : Read). strayIn lo (lo + 200) (length s) at (k .earlier) (x .recs)) (d .next)
 
   abbrev its-seat : Seat
   its-seat = seatIn lo table (d .rec .tag) (d .rec .level)
@@ -149,20 +149,20 @@ module _ {s : List ℕ} {lo : ℕ} {table : List ℕ} {at cap : ℕ} {h : Record
   judged = judging lo table (d .rec) (k .earlier) (k .long) (λ a. k .speaks (d .rec .level) a (d .obeys .level-cap))
 
   -- behind a record that is not named, by the numbers that are kept then
-  step : (new : List ℕ) → length new ≡ 256 → named lo (d .rec) (k .earlier) ≡ false
-      → ((l : ℕ) → indexIn lo l < 256 → l ≤ d .rec .level + 1 → Speaks (getD new (indexIn lo l) 0) l (d .rec ∷ k .earlier))
+  step : (new : List ℕ) → length new ≡ 200 → named lo (d .rec) (k .earlier) ≡ false
+      → ((l : ℕ) → indexIn lo l < 200 → l ≤ d .rec .level + 1 → Speaks (getD new (indexIn lo l) 0) l (d .rec ∷ k .earlier))
       → Placing s lo new (at + size (d .rec)) (d .rec .level + 1)
   step new h m speaks =
       record {
         earlier = d .rec ∷ k .earlier;
         long = h;
         speaks = speaks;
-        rest = here ∙ first-miss _ _ lo (lo + 256) (length s) at (k .earlier) (d .rec) behind m;
+        rest = here ∙ first-miss _ _ lo (lo + 200) (length s) at (k .earlier) (d .rec) behind m;
       }
 
   stray-by : Judging lo (getD table (indexIn lo (d .rec .level)) 0) (d .rec) (k .earlier) → isStray its-seat ≡ true
-      → at ≡ strayIn lo (lo + 256) (length s) 0 [] (readAll s .recs)
-  stray-by (names a m) e = sym (here ∙ first-hit _ _ lo (lo + 256) (length s) at (k .earlier) (d .rec) behind (omega (arith, d .left)) m)
+      → at ≡ strayIn lo (lo + 200) (length s) 0 [] (readAll s .recs)
+  stray-by (names a m) e = sym (here ∙ first-hit _ _ lo (lo + 200) (length s) at (k .earlier) (d .rec) behind (omega (arith, d .left)) m)
   stray-by (passes c a m w) e = absurd (let z : false ≡ true = ap isStray (sym a) ∙ e in let y : _≡_ {A = ℕ} 0 1 = cc in omega arith)
 
   next-by : Judging lo (getD table (indexIn lo (d .rec .level)) 0) (d .rec) (k .earlier) → isStray its-seat ≡ false
@@ -173,11 +173,11 @@ module _ {s : List ℕ} {lo : ℕ} {table : List ℕ} {at cap : ℕ} {h : Record
       (step (after lo table (d .rec) (k .earlier) (k .long) c (ownCode (d .rec .tag))) (simp length-set (k .long)) m
       (after-speaks lo table (d .rec) (k .earlier) (k .long) c (ownCode (d .rec .tag)) refl w (λ l p i. k .speaks l p (omega (arith, d .obeys .level-cap)))))
 
-  far-by : (d .rec .level + 1 < lo) ⊎ (lo + 256 + 1 ≤ d .rec .level + 1) → Placing s lo table (at + size (d .rec)) (d .rec .level + 1)
+  far-by : (d .rec .level + 1 < lo) ⊎ (lo + 200 + 1 ≤ d .rec .level + 1) → Placing s lo table (at + size (d .rec)) (d .rec .level + 1)
   far-by (inl q) =
-      step table (k .long) (rw (between-low lo (lo + 256) (d .rec .level) (omega arith))) (λ l p i. absurd (omega arith))
+      step table (k .long) (rw (between-low lo (lo + 200) (d .rec .level) (omega arith))) (λ l p i. absurd (omega arith))
   far-by (inr q) =
-      step table (k .long) (rw (between-high lo (lo + 256) (d .rec .level) (omega arith) (omega arith)))
+      step table (k .long) (rw (between-high lo (lo + 200) (d .rec .level) (omega arith) (omega arith)))
       (λ l p i. let z : l < d .rec .level = omega arith in speaks-skip (d .rec) z (k .speaks l p (omega (arith, d .obeys .level-cap))))
 
   -- by what the code's steps gave: whether the record sits, and the numbers then
@@ -185,19 +185,19 @@ module _ {s : List ℕ} {lo : ℕ} {table : List ℕ} {at cap : ℕ} {h : Record
     stray-as : isStray its-seat ≡ b
     stray-as = sym (is ∙ ap₂ (λ (t l : ℕ). isStray (seatIn lo table t l)) (d .tag-is) (d .level-is))
 
-    pub placing-stray : b ≡ true → at ≡ strayIn lo (lo + 256) (length s) 0 [] (readAll s .recs)
+    pub placing-stray : b ≡ true → at ≡ strayIn lo (lo + 200) (length s) 0 [] (readAll s .recs)
     placing-stray e = stray-by judged (stray-as ∙ e)
 
     pub placing-next : (new : List ℕ) → new ≡ seatedIn lo table (h .tag) (h .level) → b ≡ false → Placing s lo new (h .next .0) (h .level + 1)
     placing-next new e q = rw (e, d .next-is, d .level-is, d .tag-is) (next-by judged (stray-as ∙ q))
 
   -- a record outside: neither its level nor its children's is in the window
-  pub placing-far : between lo (lo + 256 + 1) (h .level + 1) ≡ false → Placing s lo table (h .next .0) (h .level + 1)
+  pub placing-far : between lo (lo + 200 + 1) (h .level + 1) ≡ false → Placing s lo table (h .next .0) (h .level + 1)
   placing-far e =
       rw (d .next-is, d .level-is)
-      (far-by (between-out lo (lo + 256 + 1) (d .rec .level + 1) (ap (λ (l : ℕ). between lo (lo + 256 + 1) (l + 1)) (sym (d .level-is)) ∙ e)))
+      (far-by (between-out lo (lo + 200 + 1) (d .rec .level + 1) (ap (λ (l : ℕ). between lo (lo + 200 + 1) (l + 1)) (sym (d .level-is)) ∙ e)))
 
 pub placing-end : {s : List ℕ} {lo : ℕ} {table : List ℕ} {at cap : ℕ} → Placing s lo table at cap → readFrom cap 0 (drop at s) .recs ≡ []
-    → length s ≡ strayIn lo (lo + 256) (length s) 0 [] (readAll s .recs)
+    → length s ≡ strayIn lo (lo + 200) (length s) 0 [] (readAll s .recs)
 unfolding firstIn
-placing-end {s} {lo} {table} {at} {cap} k e = sym (k .rest ∙ ap (strayIn lo (lo + 256) (length s) at (k .earlier)) e)
+placing-end {s} {lo} {table} {at} {cap} k e = sym (k .rest ∙ ap (strayIn lo (lo + 200) (length s) at (k .earlier)) e)

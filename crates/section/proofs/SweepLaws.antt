@@ -74,9 +74,9 @@ module _ (hi e : ℕ) where
 
 module _ (s : List ℕ) where
   pub sweeps-next : (place lo : ℕ) (w : Offset) → place ≡ strayIn 0 lo (length s) 0 [] (readAll s .recs)
-      → w ≡ offset (strayIn lo (lo + 256) (length s) 0 [] (readAll s .recs)) → min place (w .0) ≡ strayIn 0 (lo + 256) (length s) 0 [] (readAll s .recs)
+      → w ≡ offset (strayIn lo (lo + 200) (length s) 0 [] (readAll s .recs)) → min place (w .0) ≡ strayIn 0 (lo + 200) (length s) 0 [] (readAll s .recs)
   sweeps-next place lo w e q =
-      ap₂ min e (ap (λ (o : Offset). o .0) q) ∙ first-join depth test 0 lo (lo + 256) (length s) 0 [] (readAll s .recs) (omega arith) (omega arith)
+      ap₂ min e (ap (λ (o : Offset). o .0) q) ∙ first-join depth test 0 lo (lo + 200) (length s) 0 [] (readAll s .recs) (omega arith) (omega arith)
 
   module _ (place lo deepest : ℕ) (bs : Bytes s) (e : place ≡ strayIn 0 lo (length s) 0 [] (readAll s .recs)) (d : deepest ≡ deepestFrom 0 (readAll s .recs))
       (h : deepest < lo) where

@@ -1,5 +1,5 @@
 -- A mirror of the code of rule 9's passes, of which nothing has to be believed: `found` (proofs/SweepLaws.antt) says that the passes together find
--- what `strayFrom` names. A pass keeps the numbers of Seats for 256 levels, from lo on.
+-- what `strayFrom` names. A pass keeps the numbers of Seats for 200 levels, from lo on.
 use Prim.Native.Nat.{ℕ, _+_, _-_, _*_, min, _≤_}
 use mathlib.Core.Path.{_≡_}
 use mathlib.Core.Bool.{Bool, true, false}
@@ -17,9 +17,9 @@ use Rattle.section.specs.declared.parents.Seat.the-variants as T
 use Rattle.section.specs.declared.opening.Opened.{Opened}
 use Rattle.section.specs.declared.opening.Opened.the-variants as O
 
--- where the number for a level stands: level - lo, and 256 for a level less than lo. It is less than 256 exactly where the level is in the window
+-- where the number for a level stands: level - lo, and 200 for a level less than lo. It is less than 200 exactly where the level is in the window
 abbrev pub indexIn : ℕ → ℕ → ℕ
-indexIn lo level = level - lo + 256 * min 1 (lo - level)
+indexIn lo level = level - lo + 200 * min 1 (lo - level)
 
 -- the seat of a record with a tag at a level; whether 9 names it; and the numbers then
 abbrev pub seatIn : ℕ → List ℕ → ℕ → ℕ → Seat
@@ -46,5 +46,5 @@ abbrev pub Opens : List ℕ → Opened → Type 0
 Opens s (O.Refused f) = (room : ℕ) → readAnswer s room ≡ A.Refused f
 Opens s (O.Read n stray deepest) =
     ((room : ℕ) → n ≤ room → readAnswer s room ≡ A.Accepted n)
-    × (stray ≡ offset (strayIn 0 256 (length s) 0 [] (readAll s .recs)))
+    × (stray ≡ offset (strayIn 0 200 (length s) 0 [] (readAll s .recs)))
     × (deepest ≡ deepestFrom 0 (readAll s .recs))

@@ -1,5 +1,5 @@
-// Where records 67 to 70 stand: rule 9. A pass keeps 256 bytes on the stack, one for each level of a window; the first is the reading's own
-// (opening), and only a stream that goes deeper is passed again, for the next 256 levels.
+// Where records 67 to 70 stand: rule 9. A pass keeps 200 bytes on the stack, one for each level of a window; the first is the reading's own
+// (opening), and only a stream that goes deeper is passed again, for the next 200 levels.
 use crate::windows::inside;
 use numbers::lesser;
 use records::Ahead;
@@ -17,7 +17,7 @@ ghost use Rattle.section.specs.Windows.{deepestFrom};
 ghost use Rattle.section.specs.Sweeps.{indexIn, isStray, seatIn, seatedIn, strayIn};
 
 // The levels of one window.
-pub const LEVELS: u32 = 256;
+pub const LEVELS: u32 = 200;
 
 // What becomes of the number kept for a level where a record stands there.
 pub enum Seat {
@@ -135,7 +135,7 @@ pub fn strays(table: &mut [u8], lo: u32, tag: u32, level: u32) -> bool
 // its children's is in the window.
 fn sweep(s: &[u8], lo: u32) -> Offset
     requires { ⌜ lo < 1024 ⌝ }
-    ensures { λ r. ⌜ r ≡ offset (strayIn lo (lo + 256) (length (now (s .entry))) 0 [] (readAll (now (s .entry)) .recs)) ⌝ }
+    ensures { λ r. ⌜ r ≡ offset (strayIn lo (lo + 200) (length (now (s .entry))) 0 [] (readAll (now (s .entry)) .recs)) ⌝ }
 {
     let mut table = [16u8; LEVELS as usize];
     let end = lo + LEVELS + 1;
@@ -157,7 +157,7 @@ fn sweep(s: &[u8], lo: u32) -> Offset
 
 // The earliest stray of all, by that of the first window: a pass for each further window down to the deepest level.
 pub fn find_stray(s: &[u8], first: Offset, deepest: u32) -> Stray
-    requires { ⌜ (first ≡ offset (strayIn 0 256 (length (now s)) 0 [] (readAll (now s) .recs))) × (deepest ≡ deepestFrom 0 (readAll (now s) .recs)) × (deepest < 1024) ⌝ }
+    requires { ⌜ (first ≡ offset (strayIn 0 200 (length (now s)) 0 [] (readAll (now s) .recs))) × (deepest ≡ deepestFrom 0 (readAll (now s) .recs)) × (deepest < 1024) ⌝ }
     ensures { λ r. ⌜ r ≡ strayOf (strayFrom 0 [] (readAll (now (s .entry)) .recs)) ⌝ }
 {
     let mut place = first.0;

@@ -1,6 +1,6 @@
-// What check and the section read answer. The first pass reads the headers and judges rule 9 down to level 255; the paragraphs follow, with a pass for
-// every 16 levels that the records reach, and rule 9 is passed again for every 256 levels more. Each text is walked once, and once more where it has extended controls. Only the control header of a field
-// (15) is looked for below its paragraph's header, so that nested paragraphs before it are passed once more.
+// What check and the section read answer. The first pass reads the headers and judges rule 9 down to level 199; rule 9 is passed again for every 200
+// levels more that the records reach, and the paragraphs for every 16. Each text is walked once, and once more where it has extended controls. Only
+// the control header of a field (15) is looked for below its paragraph's header, so that nested paragraphs before it are passed once more.
 use crate::gather::first_at_fault;
 use crate::opening::Opened;
 use crate::opening::first_pass;
@@ -44,7 +44,7 @@ fn judge_paragraphs(s: &[u8], n: usize, deepest: u32) -> Answer
 // 9 over all records, by the earliest stray of its first window; then each paragraph.
 fn judge_section(s: &[u8], n: usize, stray: Offset, deepest: u32) -> Answer
     requires { ⌜ (length (now s) ≤ limit) × (readAll (now s) .stop ≡ none) × (deepest ≡ deepestFrom 0 (readAll (now s) .recs)) × (deepest < 1024) ⌝ }
-    requires { ⌜ stray ≡ offset (strayIn 0 256 (length (now s)) 0 [] (readAll (now s) .recs)) ⌝ }
+    requires { ⌜ stray ≡ offset (strayIn 0 200 (length (now s)) 0 [] (readAll (now s) .recs)) ⌝ }
     ensures { λ r. ⌜ r ≡ settled n (strayOr (strayFrom 0 [] (readAll (now (s .entry)) .recs)) (paragraphsFault 0 (recordsIn (now (s .entry))))) ⌝ }
 {
     match find_stray(s, stray, deepest) {

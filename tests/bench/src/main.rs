@@ -115,7 +115,7 @@ fn bench_host() {
 }
 
 /// So many levels are judged in one pass: for rule 9, and for the paragraphs.
-const WINDOWS: [u32; 2] = [256, 16];
+const WINDOWS: [u32; 2] = [200, 16];
 
 /// What rule 9 and the paragraphs of chains cost, each by itself, in bare passes. A read without room is the reading
 /// alone; where a record that 9 names stands behind all others, check ends with rule 9.

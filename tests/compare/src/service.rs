@@ -123,7 +123,7 @@ impl Service {
             Service::Pack => Edges::of_pack(),
             Service::Read => Edges::of_records(self.most()).and_lists(),
             Service::DocInfo => Edges::of_docinfo(self.most()).and_lists(),
-            Service::Section => Edges::of_sections(self.most()).and_lists(),
+            Service::Section => Edges::of_sections(self.most()).and_judged_lists(),
             Service::FieldText | Service::Fill => Edges::of_sections(self.most()).and_fields(),
             Service::Check | Service::Lister => Edges::of_sections(self.most()),
         }

@@ -2,10 +2,10 @@
 //! comparison catch each of them.
 
 use compare::alone::{paragraphs, refusal, refused, Paragraph};
-use compare::cases::chain::edge_levels;
+use compare::cases::chain::{edge_levels, BLOCKS};
 use compare::cases::nests::{LAST, NUMBERS};
 use compare::cases::strays::{at_edges, Way};
-use compare::edges::{way, Stray, BLOCKS};
+use compare::edges::{way, Stray};
 use compare::judge::{judge, number_of};
 use compare::lend::{Given, Room};
 use compare::service::Service;
@@ -208,10 +208,7 @@ fn wrong_windows(width: u32) -> Vec<(&'static str, Windows)> {
         ("no second level", level(|at, _| at != 1)),
         ("the first window alone", window(|nth, _| nth == 0)),
         ("no last window", window(|nth, of| nth == 0 || nth + 1 < of)),
-        (
-            "no sixteenth window and none below",
-            window(|nth, _| nth < 15),
-        ),
+        ("no fifth window and none below", window(|nth, _| nth < 4)),
         ("no window but even ones", window(|nth, _| nth % 2 == 0)),
         (
             "the later stray",
@@ -443,7 +440,7 @@ fn each_is_caught<'a>(wrong: impl Fn() -> Vec<(String, Judge<'a>)>) {
 #[test]
 fn right_windows_pass() {
     for service in SERVICES {
-        for width in [1, 16, 32, 64, 1024] {
+        for width in [1, 16, 32, 64, 200, 1024] {
             let judge = windows(width).judge();
             assert!(!caught(service, judge, 2000), "{service:?}: {width}");
         }

@@ -5,12 +5,14 @@ use crate::cases::records::Draft;
 use crate::cases::trees::DEEPEST;
 use crate::random::Random;
 
-/// The fewest levels of a block: blocks of 16, 32 and 64 levels are told apart.
-pub const BLOCK: u32 = 16;
+/// Blocks of so many levels are told apart.
+pub const BLOCKS: [u32; 4] = [16, 32, 64, 200];
 
 /// The levels at the edges of blocks, the last of one and the first two of the next, and the last two of all.
 pub fn edge_levels() -> Vec<u32> {
-    let edge = |level: &u32| [0, 1, BLOCK - 1].contains(&(level % BLOCK)) || *level + 1 == DEEPEST;
+    let of = |level: u32, block: u32| [0, 1, block - 1].contains(&(level % block));
+    let edge = |level: &u32| BLOCKS.iter().any(|&block| of(*level, block));
+    let edge = |level: &u32| edge(level) || *level + 1 == DEEPEST;
     (0..=DEEPEST).filter(edge).collect()
 }
 
@@ -18,7 +20,7 @@ pub fn edge_levels() -> Vec<u32> {
 pub fn level_between(random: &mut Random, first: u32, last: u32) -> u32 {
     let any = random.from_to(first as usize, last as usize) as u32;
     let edges = edge_levels();
-    let block = random.pick(&[BLOCK, 2 * BLOCK, 4 * BLOCK]);
+    let block = random.pick(&BLOCKS);
     let level = match random.below(10) {
         0 => any,
         1 => first,

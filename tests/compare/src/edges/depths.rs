@@ -1,7 +1,7 @@
 //! Edges of accepted sections: how deep the records of paragraphs stand, and what stands between them.
 
-use super::BLOCKS;
 use crate::alone::paragraphs;
+use crate::cases::chain::BLOCKS;
 use crate::cases::nests::LAST;
 use crate::cases::paragraphs::{CONTROL, TEXT};
 use crate::cases::strays::OWN;

@@ -24,9 +24,6 @@ use oracle::Row;
 use rooms::Rooms;
 use trees::Tree;
 
-/// Blocks of so many levels are told apart.
-pub const BLOCKS: [u32; 3] = [16, 32, 64];
-
 /// An edge is reached by a case with one of these numbers of which the question is true.
 pub struct Edge<T> {
     name: String,
@@ -128,12 +125,16 @@ impl Edges {
     }
 
     /// With those of a read that writes lists.
-    pub fn and_lists(self) -> Edges {
-        Edges {
-            rooms: rooms::edges(),
-            trees: trees::edges(),
-            ..self
-        }
+    pub fn and_lists(mut self) -> Edges {
+        self.rooms.extend(rooms::edges());
+        self.trees.extend(trees::edges());
+        self
+    }
+
+    /// With those of a section read.
+    pub fn and_judged_lists(mut self) -> Edges {
+        self.rooms.extend(rooms::of_sections());
+        self.and_lists()
     }
 
     pub fn names(&self) -> Vec<String> {

@@ -1,8 +1,7 @@
 //! Edges of 8 and 10 to 15: the paragraph that is named beside others, at fault or not, by the blocks of their levels.
 
-use super::BLOCKS;
 use crate::alone::{paragraphs, refused, Paragraph};
-use crate::cases::chain::edge_levels;
+use crate::cases::chain::{edge_levels, BLOCKS};
 use crate::cases::nests::{LAST, NUMBERS};
 use oracle::records::tile;
 

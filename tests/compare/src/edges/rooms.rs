@@ -1,5 +1,6 @@
-//! Edges of 7: which of the lists is too short, alone, by one entry or by all.
+//! Edges of 7: which of the lists is too short, alone, by one entry or by all; and of a section whose records just fit.
 
+use super::strays::way;
 use crate::judge::{Case, LIST_NAMES};
 use oracle::records::tile;
 use oracle::LISTS;
@@ -10,6 +11,8 @@ type Edge = super::Edge<Rooms>;
 pub struct Rooms {
     rooms: [usize; LISTS],
     records: usize,
+    /// There is a record that 9 could name.
+    stray: bool,
 }
 
 impl Rooms {
@@ -17,11 +20,17 @@ impl Rooms {
         let Case::Read { stream, rooms, .. } = case else {
             return None;
         };
-        let records = tile(stream).ok()?.len();
+        let rows = tile(stream).ok()?;
         Some(Rooms {
             rooms: *rooms,
-            records,
+            records: rows.len(),
+            stray: (0..rows.len()).any(|index| way(&rows, index).is_some()),
         })
+    }
+
+    /// The shortest list has room for all records but so many.
+    fn short_by(&self, missing: usize) -> bool {
+        self.rooms.iter().min() == self.records.checked_sub(missing).as_ref()
     }
 
     /// The list has this room, and every other has enough.
@@ -43,4 +52,18 @@ pub fn edges() -> Vec<Edge> {
         ]
     };
     LIST_NAMES.iter().enumerate().flat_map(of_list).collect()
+}
+
+/// Those of a section: 7 comes before 9, and where the records just fit, the section is judged.
+pub fn of_sections() -> Vec<Edge> {
+    let judged = |number: u8| {
+        Edge::new(format!("{number}, the records just fit"), number, |it| {
+            it.short_by(0)
+        })
+    };
+    let mut edges: Vec<Edge> = [9, 8, 10, 12, 14, 15].map(judged).into();
+    edges.push(Edge::new("7, one short, and a stray", 7, |it| {
+        it.short_by(1) && it.stray
+    }));
+    edges
 }

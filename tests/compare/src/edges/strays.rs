@@ -1,6 +1,6 @@
 //! Edges of 9: the way and the level, at the edges of blocks of levels, and what else could be named later.
 
-use super::BLOCKS;
+use crate::cases::chain::BLOCKS;
 use crate::cases::paragraphs::PARAGRAPH;
 use crate::cases::strays::{at_edges, Way, OWN};
 use oracle::records::tile;

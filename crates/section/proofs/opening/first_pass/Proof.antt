@@ -28,7 +28,7 @@ returns : tie.Need-returns Inv-loop μ-loop
 returns c = λ room. answer-too-long _ room (c .if1 .taken)
 
 loop-holds : tie.Need-loop-holds Inv-loop μ-loop
-loop-holds c = opening-start _ (replicate 256 16) (c .if1 .left) refl refl
+loop-holds c = opening-start _ (replicate 200 16) (c .if1 .left) refl refl
 
 record-at-requires : tie.Need-record-at-requires Inv-loop μ-loop
 record-at-requires c κs = search needs
