@@ -35,8 +35,8 @@ fn accepted(records: &[Record]) {
     assert_eq!(rows.map(|rows| rows.len()), Ok(records.len()));
 }
 
-/// The levels at the edges of windows of 64 levels, and the last.
-const LEVELS: [u32; 7] = [63, 64, 65, 127, 128, 1022, 1023];
+/// The levels at the edges of windows of 64 and of 200 levels, and the last.
+const LEVELS: [u32; 12] = [63, 64, 65, 127, 128, 199, 200, 201, 399, 400, 1022, 1023];
 
 /// Records of a tag that no rule is about, at the levels from one up to but not including another: four bytes each.
 fn down(from: u32, to: u32) -> Vec<Record> {
