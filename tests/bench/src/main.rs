@@ -139,8 +139,9 @@ fn bench_depth(body: usize) {
     let parts = [("rule 9", nine - reading), ("the paragraphs", all - nine)];
     for ((part, took), levels) in parts.into_iter().zip(WINDOWS) {
         println!(
-            "  {part} alone, in windows of {levels} levels: {took:.3} ms, that is {:.1} bare passes; levels / window + 1 is {:.1}",
+            "  {part} alone, in windows of {levels} levels: {took:.3} ms, that is {:.1} bare passes, {:.1} readings; levels / window + 1 is {:.1}",
             took / bare,
+            took / reading,
             f64::from(shape::CHAIN) / f64::from(levels) + 1.0
         );
     }
