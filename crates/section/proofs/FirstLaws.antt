@@ -91,13 +91,3 @@ module _ (depth : Rec → ℕ) (test : List Rec → Rec → List Rec → Bool) w
       one-join lo mid hi (depth r) (test earlier r rs) at e a b
       (first-below depth test lo mid e (at + size r) (r ∷ earlier) rs) (first-below depth test mid hi e (at + size r) (r ∷ earlier) rs)
       ∙ ap (min (cond (between lo hi (depth r) && test earlier r rs) at e)) (first-join lo mid hi e (at + size r) (r ∷ earlier) rs a b)
-
-  pub first-empty : (lo e at : ℕ) (earlier rs : List Rec) → firstIn depth test lo lo e at earlier rs ≡ e
-  unfolding firstIn
-  first-empty lo e at earlier [] = refl
-  first-empty lo e at earlier (r ∷ rs) =
-      first-miss depth test lo lo e at earlier r rs (none (lt-or (depth r) lo)) ∙ first-empty lo e (at + size r) (r ∷ earlier) rs
-    where
-      none : (depth r < lo) ⊎ (lo ≤ depth r) → (between lo lo (depth r) && test earlier r rs) ≡ false
-      none (inl u) = rw (between-low lo lo (depth r) u)
-      none (inr u) = rw (between-high lo lo (depth r) u u)

@@ -2,18 +2,15 @@
 use Prim.Native.Nat.{ℕ, _+_, _≤_, _<_, min, max}
 use native.Mathlib.Omega.{arith}
 use mathlib.Core.Path.{_≡_, refl, sym, ap, _∙_}
-use mathlib.Core.Bool.{Bool, true, false, cond}
+use mathlib.Core.Bool.{true, false, cond}
 use mathlib.Core.Option.{none}
 use mathlib.Core.List.{List, []}
 use lib.Dec.{eqb}
 use lib.ListN.{length, drop, getD}
 use Rattle.records.specs.Records.{limit}
-use Rattle.records.specs.Answers.{refusedAt}
 use Rattle.records.specs.Reading.{Read, offset, onto, readFrom, readAll}
-use Rattle.records.specs.Table.{readAnswer}
 use Rattle.records.specs.declared.header.Record.{Record}
 use Rattle.records.specs.declared.fault.Refusal.{Refusal}
-use Rattle.records.specs.declared.fault.Answer.the-variants as A
 use Rattle.records.proofs.ReadingLaws.{Here, Stops}
 use Rattle.records.proofs.ScanLaws.{Scanning, answerFrom, answer-start, scan-next, answer-stop, answer-fits}
 use Rattle.section.specs.Windows.{deepestFrom}

@@ -1,6 +1,4 @@
 -- A record is noted as `noted` has it. Assumes nothing.
-use native.Mathlib.Omega.{arith}
-use mathlib.Core.Path.{_∙_}
 use Rattle.section.proofs.SlotLaws.{noted-empty, noted-low, noted-high, noted-there}
 use borrow.Author.Needs.{needs}
 use Rattle.section.proofs.gather.note.Statement.{statement}

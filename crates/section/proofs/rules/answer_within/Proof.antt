@@ -1,6 +1,6 @@
 -- The first pass, then the rules. Assumes nothing.
 use native.Mathlib.Omega.{arith}
-use mathlib.Core.Path.{_≡_, subst}
+use mathlib.Core.Path.{subst}
 use Rattle.records.proofs.ScanLaws.{accepted}
 use Rattle.numbers.proofs.LittleLaws.{slice-bytes}
 use Rattle.section.specs.Sweeps.{Opens}
