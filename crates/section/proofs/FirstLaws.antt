@@ -29,12 +29,9 @@ between-out lo hi d e = go (lt-or d lo) (lt-or d hi)
     go (inr a) (inr b) = inr b
     go (inr a) (inl b) = absurd (let z : _≡_ {A = Bool} true false = sym (between-in lo hi d a b) ∙ e in let y : _≡_ {A = ℕ} 0 1 = cc in omega arith)
 
--- the tests of the code
-pub below-low : (lo hi d : ℕ) → d < lo → false ≡ between lo hi d
-below-low lo hi d a = sym (between-low lo hi d a)
-
-pub below-hi : (lo hi d : ℕ) → lo ≤ d → ltb d hi ≡ between lo hi d
-below-hi lo hi d a = rw (le-leb lo d a)
+-- from lo on only the upper end is asked
+pub between-by : (lo hi d : ℕ) → lo ≤ d → ltb d hi ≡ between lo hi d
+between-by lo hi d a = rw (le-leb lo d a)
 
 module _ (depth : Rec → ℕ) (test : List Rec → Rec → List Rec → Bool) (lo hi e : ℕ) where
   pub first-next : (at : ℕ) (earlier : List Rec) (r : Rec) (rs : List Rec)

@@ -213,17 +213,16 @@ module _ (lo n : ℕ) (slots : List ℕ) where
 
 -- ---- a record outside the window
 
-module _ (lo n : ℕ) where
-  module _ (slots : List ℕ) (tag place : ℕ) (e : between lo (lo + 16 + 1) (n + 1) ≡ false) where
-    outside : (between lo (lo + 16) n ≡ false) × (between lo (lo + 16) (n + 1) ≡ false)
-    outside = go (between-out lo (lo + 16 + 1) (n + 1) e)
-      where
-        go : (n + 1 < lo) ⊎ (lo + 16 + 1 ≤ n + 1) → (between lo (lo + 16) n ≡ false) × (between lo (lo + 16) (n + 1) ≡ false)
-        go (inl h) = (between-low lo (lo + 16) n (omega arith), between-low lo (lo + 16) (n + 1) h)
-        go (inr h) = (between-high lo (lo + 16) n (omega arith) (omega arith), between-high lo (lo + 16) (n + 1) (omega arith) (omega arith))
+module _ (lo n : ℕ) (slots : List ℕ) (tag place : ℕ) (e : between lo (lo + 16 + 1) (n + 1) ≡ false) where
+  outside : (between lo (lo + 16) n ≡ false) × (between lo (lo + 16) (n + 1) ≡ false)
+  outside = go (between-out lo (lo + 16 + 1) (n + 1) e)
+    where
+      go : (n + 1 < lo) ⊎ (lo + 16 + 1 ≤ n + 1) → (between lo (lo + 16) n ≡ false) × (between lo (lo + 16) (n + 1) ≡ false)
+      go (inl h) = (between-low lo (lo + 16) n (omega arith), between-low lo (lo + 16) (n + 1) h)
+      go (inr h) = (between-high lo (lo + 16) n (omega arith) (omega arith), between-high lo (lo + 16) (n + 1) (omega arith) (omega arith))
 
-    pub far-slots : slots ≡ takenIn lo (notedIn lo slots tag n place) tag (n + 1) place
-    far-slots = noted-outside lo slots tag n place (outside .0) ∙ taken-outside lo (notedIn lo slots tag n place) tag (n + 1) place (outside .1)
+  pub far-slots : slots ≡ takenIn lo (notedIn lo slots tag n place) tag (n + 1) place
+  far-slots = noted-outside lo slots tag n place (outside .0) ∙ taken-outside lo (notedIn lo slots tag n place) tag (n + 1) place (outside .1)
 
-    pub far-fault : (s : List ℕ) (first : ℕ) → first ≤ length s → first ≡ min first (ownFault s lo (notedIn lo slots tag n place) (n + 1))
-    far-fault s first h = let z = own-outside lo (notedIn lo slots tag n place) tag (n + 1) place s (outside .1) in omega (arith, z)
+  pub far-fault : (s : List ℕ) (first : ℕ) → first ≤ length s → first ≡ min first (ownFault s lo (notedIn lo slots tag n place) (n + 1))
+  far-fault s first h = let z = own-outside lo (notedIn lo slots tag n place) tag (n + 1) place s (outside .1) in omega (arith, z)
