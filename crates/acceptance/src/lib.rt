@@ -1,1 +1,2 @@
 // What acceptance means, by no order of refusals: theorems only, in proofs/.
+#![tactic(auto)]

@@ -16,7 +16,7 @@ use text::Position;
 
 // Where in its paragraph the field stands: how many extended controls stand before it, and the positions at which its value starts
 // and ends.
-#[derive(Drop)]
+#[derive(Clone, Copy)]
 pub struct Spot {
     pub ordinal: usize,
     pub a: Position,

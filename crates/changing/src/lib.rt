@@ -1,4 +1,5 @@
 // The records of a filled paragraph: its header and its children (document 01, 'Filling a field').
+#![tactic(auto)]
 mod child;
 mod head;
 

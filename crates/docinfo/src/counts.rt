@@ -10,7 +10,7 @@ use crate::widths::{Width, count, count_bytes, count_span};
 use records::Offset;
 
 // Counts that sum to the number of children with a tag.
-#[derive(Drop)]
+#[derive(Clone, Copy)]
 pub struct Group {
     pub first: usize,
     pub many: usize,
@@ -18,7 +18,7 @@ pub struct Group {
 }
 
 // The count at fault, if there is one.
-#[derive(Drop)]
+#[derive(Clone, Copy)]
 pub enum Verdict {
     Sound,
     Fault(usize),

@@ -1,4 +1,5 @@
 // DocInfo: read with its counts (document 01, 'DocInfo').
+#![tactic(auto)]
 mod children;
 mod counts;
 mod read;

@@ -5,14 +5,14 @@ ghost use Rattle.docinfo.specs.Only.{tagged, sought_of, sole_of, only};
 
 use records::{Ahead, Offset, Record, record_at};
 
-#[derive(Drop)]
+#[derive(Clone, Copy)]
 pub enum Sought {
     Record(Record),
     Nothing,
 }
 
 // The only record with a tag, or the place that a refusal names.
-#[derive(Drop)]
+#[derive(Clone, Copy)]
 pub enum Sole {
     One(Record),
     Wrong(Offset),

@@ -6,14 +6,14 @@ ghost use Rattle.docinfo.specs.Widths.{count_bytes, form_of};
 use numbers::{number16, number32, wide};
 
 // The width of a count.
-#[derive(Drop)]
+#[derive(Clone, Copy)]
 pub enum Width {
     Bits16,
     Bits32,
 }
 
 // What a length holds: counts of a width, or none.
-#[derive(Drop)]
+#[derive(Clone, Copy)]
 pub enum Form {
     Counts(Width),
     Neither,

@@ -1,11 +1,12 @@
 // The entries of character shapes and of marks.
+#![tactic(auto)]
 ghost use Rattle.std.specs.Prelude.{◌≡◌, max};
 ghost use Rattle.entries.specs.Entries.{shapes_fault, marks_fault, entries_of};
 
 use numbers::number32;
 
 // Whether the entries keep their rule, or the first that does not.
-#[derive(Drop)]
+#[derive(Clone, Copy)]
 pub enum Entries {
     Sound,
     Wrong(usize),

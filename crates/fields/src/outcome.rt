@@ -9,7 +9,7 @@ use records::{Fault, Offset, Refusal};
 use search::{Hit, Met, SectionSearch, search_section};
 
 // One plain field with the id, or a refusal: 21 to 23, for a fill 20 and 24 too.
-#[derive(Drop)]
+#[derive(Clone, Copy)]
 pub enum Searched {
     One(Hit),
     Refused(Refusal),

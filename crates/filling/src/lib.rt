@@ -1,11 +1,12 @@
 // What filling a field does to a paragraph's numbers, and what its calls answer (document 01, 'Filling a field').
+#![tactic(auto)]
 ghost use Rattle.std.specs.Prelude.{◌≡◌};
 ghost use Rattle.filling.specs.Filling.{with_bit15};
 
 use records::{Offset, Refusal};
 
 // What field text answers: where the value starts and how many bytes it has, or the refusal.
-#[derive(Drop)]
+#[derive(Clone, Copy)]
 pub enum TextAnswer {
     At { place: Offset, len: usize },
     Refused(Refusal),

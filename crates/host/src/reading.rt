@@ -10,7 +10,7 @@ use records::{Answer, enter, room, scan};
 use section::answer_within;
 
 // The rules that a stream is read by.
-#[derive(Drop)]
+#[derive(Clone, Copy)]
 pub enum Rules {
     Records,
     Section,

@@ -1,4 +1,5 @@
 // The rules of one paragraph in document 01's order, over the stream.
+#![tactic(auto)]
 mod judge;
 mod rules;
 

@@ -1,5 +1,6 @@
 // Lists the records of a section that comes on standard input: for each the place of its header, tag, level and body length, then
 // `ok` and their number; or `refused`, the number and the place.
+#![tactic(auto)]
 use libc::{STDIN_FILENO, STDOUT_FILENO};
 use records::{Ahead, Answer, Fault, Offset, Record, Refusal, record_at};
 

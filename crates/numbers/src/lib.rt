@@ -1,4 +1,6 @@
 // Numbers of 16 and 32 bits at the front of a slice, the lowest byte first; and parts of a slice.
+#![tactic(auto)]
+
 ghost use Rattle.std.specs.Prelude.{◌≡◌, ◌<◌, min, get_or, take, drop};
 ghost use Rattle.numbers.specs.Little.{little, bytes_of, laid};
 
@@ -76,7 +78,7 @@ pub fn put_all(out: &mut [u8], s: &[u8])
     ensures { out.new ≡ laid s.now out.old }
 {
     if s.len() <= out.len() {
-        bytes::copy(s, out);
+        out[..s.len()].copy_from_slice(s);
     }
 }
 

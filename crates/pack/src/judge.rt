@@ -11,11 +11,11 @@ use numbers::wide;
 use records::{Fault, Offset, bits, right_parents};
 
 // A record's index in the table.
-#[derive(Drop)]
+#[derive(Clone, Copy)]
 pub struct Index(pub usize);
 
 // What pack answers: the length written, or a fault with the index of its record.
-#[derive(Drop)]
+#[derive(Clone, Copy)]
 pub enum Packed {
     Length(usize),
     Refused { fault: Fault, index: Index },
@@ -34,7 +34,7 @@ impl Packed {
 }
 
 // What one row's numbers say.
-#[derive(Drop)]
+#[derive(Clone, Copy)]
 pub enum Verdict {
     Sound,
     Faulty(Fault),

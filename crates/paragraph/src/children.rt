@@ -8,7 +8,7 @@ use crate::view::{Side, stands_to};
 use numbers::part;
 use records::{Ahead, Offset, Record, record_at};
 
-#[derive(Drop)]
+#[derive(Clone, Copy)]
 pub enum Found {
     At(Record),
     Nothing,
@@ -58,7 +58,7 @@ pub fn find(s: &[u8], from: Offset, n: u32, tag: u32, nth: usize) -> Found
 }
 
 // The four records that a paragraph has at most one of, and how many control headers it has.
-#[derive(Drop)]
+#[derive(Clone, Copy)]
 pub struct Parts {
     pub text: Found,
     pub shapes: Found,

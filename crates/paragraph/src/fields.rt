@@ -10,7 +10,7 @@ use records::{Kind, Offset, Record};
 use text::{Class, Position, Standing};
 
 // What an extended control owns: a control header, by the control's code.
-#[derive(Drop)]
+#[derive(Clone, Copy)]
 pub enum Owner {
     Nobody,
     Owner(u32),
@@ -58,7 +58,7 @@ pub fn field_short(body: &[u8]) -> bool
 }
 
 // The control header that something in the text owns.
-#[derive(Drop)]
+#[derive(Clone, Copy)]
 pub enum Owned {
     // It owns none.
     Nobody,

@@ -3,7 +3,7 @@ use records::{Fault, Offset};
 use text::Position;
 
 // The numbers in a paragraph header's body.
-#[derive(Drop)]
+#[derive(Clone, Copy)]
 pub struct Counts {
     pub count: u32,
     pub shapes: u32,
@@ -13,7 +13,7 @@ pub struct Counts {
 
 // What a fault names: the paragraph header; its nth child with a tag, the first of them 0; the unit at a position of its text; or the
 // entry that begins at an offset of the body of the child with a tag.
-#[derive(Drop)]
+#[derive(Clone, Copy)]
 pub enum Which {
     Header,
     Child { tag: u32, nth: usize },
@@ -21,7 +21,7 @@ pub enum Which {
     Entry { tag: u32, from: Offset },
 }
 
-#[derive(Drop)]
+#[derive(Clone, Copy)]
 pub enum Finding {
     Lawful,
     Breach { fault: Fault, which: Which },

@@ -1,4 +1,5 @@
 // One paragraph: its view and its rules (document 01, 'Paragraphs').
+#![tactic(auto)]
 mod children;
 mod fields;
 mod finding;

@@ -4,7 +4,7 @@ ghost use Rattle.paragraph.specs.View.{side};
 
 use records::Kind;
 
-#[derive(Drop)]
+#[derive(Clone, Copy)]
 pub enum Side {
     // Behind the last record below the parent.
     Beyond,

@@ -10,7 +10,7 @@ use records::Offset;
 use text::Position;
 
 // What a fill does to the positions of a text: those from a up to b go, v come in their place.
-#[derive(Drop)]
+#[derive(Clone, Copy)]
 pub struct Change {
     pub a: Position,
     pub b: Position,

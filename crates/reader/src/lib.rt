@@ -1,6 +1,7 @@
 // The text walk: a paragraph's bytes and the present position together (document 01, 'Text units').
 // No function over a struct that holds a slice is covered, so each is proved by hand, and each is thin: it takes the walk
 // apart and leaves the work to a covered function on the slice and the position.
+#![tactic(auto)]
 ghost use Rattle.std.specs.Prelude.{◌≡◌, ◌+◌, drop};
 ghost use Rattle.text.specs.Units.{units};
 ghost use Rattle.text.specs.Walk.{run, is_extended};
@@ -9,7 +10,7 @@ ghost use Rattle.reader.specs.Reading.{reader, ahead, standing};
 
 use text::{Class, Cursor, Judged, Position, Standing, Step};
 
-#[derive(Drop)]
+#[derive(Clone, Copy)]
 pub struct Reader<'a> {
     pub text: &'a [u8],
     pub at: Position,

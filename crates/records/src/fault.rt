@@ -3,11 +3,11 @@ ghost use Rattle.std.specs.Prelude.{◌≡◌, ◌<◌};
 ghost use Rattle.records.specs.Answers.{number_of, refused_at, place_bits, host_form, number, place};
 
 // A byte place in a stream, never added to a character position.
-#[derive(Drop)]
+#[derive(Clone, Copy)]
 pub struct Offset(pub usize);
 
 // Why a call refuses. `number_of` gives document 01's number of each.
-#[derive(Drop)]
+#[derive(Clone, Copy)]
 pub enum Fault {
     StreamTooLong,
     HeaderCut,
@@ -39,14 +39,14 @@ pub enum Fault {
 }
 
 // A fault, and the place that document 01 gives with it.
-#[derive(Drop)]
+#[derive(Clone, Copy)]
 pub struct Refusal {
     pub fault: Fault,
     pub place: Offset,
 }
 
 // What a call over one stream answers: how much it found or wrote, or the refusal.
-#[derive(Drop)]
+#[derive(Clone, Copy)]
 pub enum Answer {
     Accepted(usize),
     Refused(Refusal),

@@ -9,7 +9,7 @@ use crate::fault::{Fault, Offset, Refusal};
 use numbers::number32;
 
 // What a header says: where its body begins behind it, and how long that is.
-#[derive(Drop)]
+#[derive(Clone, Copy)]
 pub struct Header {
     pub tag: u32,
     pub level: u32,
@@ -18,7 +18,7 @@ pub struct Header {
 }
 
 // What stands at the front of a slice; a refusal's place is counted from there.
-#[derive(Drop)]
+#[derive(Clone, Copy)]
 pub enum Front {
     Record(Header),
     Refused(Refusal),
@@ -89,7 +89,7 @@ fn body(s: &[u8], tag: u32, level: u32, lead: usize, len: u32) -> Front
 }
 
 // A record of a stream: where its header stands and what that says, where its body begins, and where the next header stands.
-#[derive(Drop)]
+#[derive(Clone, Copy)]
 pub struct Record {
     pub at: Offset,
     pub tag: u32,
@@ -100,7 +100,7 @@ pub struct Record {
 }
 
 // What a step over the records finds; the place of a refusal is one of the stream.
-#[derive(Drop)]
+#[derive(Clone, Copy)]
 pub enum Ahead {
     Record(Record),
     Refused(Refusal),

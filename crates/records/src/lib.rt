@@ -1,4 +1,5 @@
 // Reading the records of an unpacked stream (document 01, 'Records').
+#![tactic(auto)]
 mod fault;
 mod header;
 mod kind;

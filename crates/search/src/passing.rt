@@ -12,7 +12,7 @@ use records::{Ahead, Kind, Offset, record_at};
 
 // A paragraph: its number, the place of its header, the level of its children, where they begin, the first byte of its text and how many
 // bytes that has, and its number of marks.
-#[derive(Drop)]
+#[derive(Clone, Copy)]
 pub struct Paragraph {
     pub number: usize,
     pub header: Offset,
@@ -25,7 +25,7 @@ pub struct Paragraph {
 
 // What stands at a place: no record; records in which no field can be, how many of them paragraph headers, and where the next stands;
 // or another paragraph header.
-#[derive(Drop)]
+#[derive(Clone, Copy)]
 pub enum Look {
     Nothing,
     Passed { paragraphs: usize, next: Offset },
@@ -33,14 +33,14 @@ pub enum Look {
 }
 
 // Where the records 67 to 70 below a paragraph header end, if nothing else stands below it.
-#[derive(Drop)]
+#[derive(Clone, Copy)]
 pub enum Until {
     Other,
     End(Offset),
 }
 
 // The bytes of a text.
-#[derive(Drop)]
+#[derive(Clone, Copy)]
 pub struct Span {
     pub from: Offset,
     pub len: usize,

@@ -24,7 +24,7 @@ use text::{Position, Standing, Step};
 
 // A field: how many extended controls stand before it, the position behind its control, that of the next unit below 32, and whether
 // that is code 4.
-#[derive(Drop)]
+#[derive(Clone, Copy)]
 pub struct Field {
     pub ordinal: usize,
     pub a: Position,
@@ -34,7 +34,7 @@ pub struct Field {
 
 // A field with the id: the number of its paragraph, the places of the paragraph header, of the text's first byte and of its control
 // header, and its paragraph's number of marks.
-#[derive(Drop)]
+#[derive(Clone, Copy)]
 pub struct Hit {
     pub paragraph: usize,
     pub header: Offset,
@@ -45,7 +45,7 @@ pub struct Hit {
 }
 
 // What the search met: no field with the id, one, or a second with this control header.
-#[derive(Drop)]
+#[derive(Clone, Copy)]
 pub enum Met {
     Nothing,
     One(Hit),
@@ -53,14 +53,14 @@ pub enum Met {
 }
 
 // What the search of a section comes to: check's refusal, or what was met.
-#[derive(Drop)]
+#[derive(Clone, Copy)]
 pub enum SectionSearch {
     Refused(Refusal),
     Met(Met),
 }
 
 // The unit that closes a field: its position, and whether it is code 4.
-#[derive(Drop)]
+#[derive(Clone, Copy)]
 pub struct Closing {
     pub b: Position,
     pub plain: bool,
@@ -68,7 +68,7 @@ pub struct Closing {
 
 // How many extended controls of a paragraph are passed, from where on the next control header is sought, and how many belong to
 // controls passed since.
-#[derive(Drop)]
+#[derive(Clone, Copy)]
 pub struct Passed {
     pub ordinal: usize,
     pub from: Offset,
@@ -76,7 +76,7 @@ pub struct Passed {
 }
 
 // The control headers passed behind a step, and whether the step was a field with the id, whose control header stands at `control`.
-#[derive(Drop)]
+#[derive(Clone, Copy)]
 pub struct Seen {
     pub passed: Passed,
     pub field: bool,

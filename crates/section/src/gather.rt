@@ -50,7 +50,7 @@ fn parts_in(s: &[u8], slots: &[u32], b: usize) -> Parts
 }
 
 // A paragraph at fault: where its header stands, and what was found of it. Where none is, the end of the stream and nothing.
-#[derive(Drop)]
+#[derive(Clone, Copy)]
 pub struct Blamed {
     pub at: Offset,
     pub finding: Finding,

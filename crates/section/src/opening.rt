@@ -9,7 +9,7 @@ use records::{Ahead, Fault, Offset, Refusal, record_at};
 
 // What the first pass finds: a refusal of the reading; or how many records there are, the earliest stray of the first window, or the stream's length,
 // and the deepest level.
-#[derive(Drop)]
+#[derive(Clone, Copy)]
 pub enum Opened {
     Refused(Refusal),
     Read {

@@ -15,14 +15,14 @@ use records::{Ahead, Kind, Offset, record_at};
 pub const LEVELS: u32 = 200;
 
 // What becomes of the number kept for a level where a record stands there.
-#[derive(Drop)]
+#[derive(Clone, Copy)]
 pub enum Seat {
     Stray,
     Seated(u8),
 }
 
 // The earliest record that 9 can name.
-#[derive(Drop)]
+#[derive(Clone, Copy)]
 pub enum Stray {
     Nowhere,
     At(Offset),

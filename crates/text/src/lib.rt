@@ -1,4 +1,5 @@
 // A paragraph's text: what stands at each position, and whether the text keeps its rules.
+#![tactic(auto)]
 ghost use Rattle.std.specs.Prelude.{◌≡◌, ◌+◌, ◌-◌, ◌/◌, ◌≤◌, ◌<◌, length, get_or, drop};
 ghost use Rattle.text.specs.Units.{units};
 ghost use Rattle.text.specs.Asked.{class_of, what as begins, width};
@@ -9,11 +10,11 @@ ghost use Rattle.text.specs.Answers.{step_of, step_at, cursor};
 use numbers::number16;
 
 // A position of the text, in units; it is never added to a byte offset.
-#[derive(Drop)]
+#[derive(Clone, Copy)]
 pub struct Position(pub usize);
 
 // The classes of table 6.
-#[derive(Drop)]
+#[derive(Clone, Copy)]
 pub enum Class {
     Character,
     Inline,
@@ -21,27 +22,27 @@ pub enum Class {
 }
 
 // A control, with its class and code.
-#[derive(Drop)]
+#[derive(Clone, Copy)]
 pub struct Control {
     pub class: Class,
     pub code: u32,
 }
 
 // What stands at a position.
-#[derive(Drop)]
+#[derive(Clone, Copy)]
 pub enum Standing {
     Ordinary(u32),
     Control(Control),
 }
 
 // The walk at a position.
-#[derive(Drop)]
+#[derive(Clone, Copy)]
 pub struct Cursor {
     pub at: Position,
 }
 
 // What a step finds: where it stood, what stands there and the walk behind it; or the unit that breaks a rule; or the end.
-#[derive(Drop)]
+#[derive(Clone, Copy)]
 pub enum Step {
     Stands {
         at: Position,
@@ -53,7 +54,7 @@ pub enum Step {
 }
 
 // A whole text: how many extended controls it has, or the unit that breaks a rule.
-#[derive(Drop)]
+#[derive(Clone, Copy)]
 pub enum Judged {
     Sound(usize),
     Broken(Position),

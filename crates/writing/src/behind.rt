@@ -11,7 +11,7 @@ use putting::put_rest;
 use records::{Ahead, Kind, Offset, Record, record_at};
 
 // The paragraph's children as they are passed: the level at which they are, and how many control headers of them are passed.
-#[derive(Drop)]
+#[derive(Clone, Copy)]
 pub struct Children {
     pub n: u32,
     pub nth: usize,

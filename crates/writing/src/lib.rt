@@ -1,4 +1,5 @@
 // The sheet: its length, and its bytes into a buffer (document 01, 'Filling a field').
+#![tactic(auto)]
 mod behind;
 mod sheet;
 
