@@ -423,8 +423,8 @@ from_high : (y n : ℕ) (ts : List Token) → High y ts → From y (fields_in n 
 from_high y n [] h = unfold fields_in in tt
 from_high y n (t ∷ ts) h = elim (seen t.what) [
   | ordinary u s ↦ rw (fields_ordinary t ts n s) (from_high y n ts h.1)
-  | field c s z ↦ rw (fields_field t ts n s z) (omega (arith, h.0, field_a n t.at (next ts)), from_high y _ ts h.1)
-  | other c s z ↦ rw (fields_other t ts n s z) (from_high y _ ts h.1)
+  | field c s z ↦ rw (fields_field t ts n s z) (omega (arith, h.0, field_a n t.at (next ts)), from_high y (is_extended (St.Control c) + n) ts h.1)
+  | other c s z ↦ rw (fields_other t ts n s z) (from_high y (is_extended (St.Control c) + n) ts h.1)
 ]
 
 -- behind the closing control
@@ -457,8 +457,8 @@ ordered n p (suc k) (u ∷ us) = ordered n (p + 1) k us
 ordered n p zero (u ∷ us) = elim (seen (what u)) [
   | ordinary v s ↦ rw (fields_ordinary (record { at = p; what = what u }) (walk (p + 1) (width (what u) - 1) us) n s) (ordered n (p + 1) (width (what u) - 1) us)
   | field c s z ↦ rw (fields_field (record { at = p; what = what u }) (walk (p + 1) (width (what u) - 1) us) n s z)
-      (go _ (next (walk (p + 1) (width (what u) - 1) us)) refl, ordered _ (p + 1) (width (what u) - 1) us)
-  | other c s z ↦ rw (fields_other (record { at = p; what = what u }) (walk (p + 1) (width (what u) - 1) us) n s z) (ordered _ (p + 1) (width (what u) - 1) us)
+      (go _ (next (walk (p + 1) (width (what u) - 1) us)) refl, ordered (is_extended (St.Control c) + n) (p + 1) (width (what u) - 1) us)
+  | other c s z ↦ rw (fields_other (record { at = p; what = what u }) (walk (p + 1) (width (what u) - 1) us) n s z) (ordered (is_extended (St.Control c) + n) (p + 1) (width (what u) - 1) us)
 ]
   where
     go : (m : ℕ) (o : Option (ℕ × ℕ)) → next (walk (p + 1) (width (what u) - 1) us) ≡ o → (field_at n p o).plain ≡ true
