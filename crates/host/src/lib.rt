@@ -1,6 +1,7 @@
 // The C face: every service for programs in C, each answering with one number (document 01, 'What the part does'). Here check, field text and
 // fill; beside it the reads and pack.
 #![tactic(auto)]
+
 mod packing;
 mod reading;
 

@@ -1,13 +1,11 @@
 -- The laws of little-endian numbers: each said once, over the width. Assumes nothing.
 use Prim.Native.Nat.{ℕ, zero, suc, ◌+◌, ◌-◌, ◌*◌, ◌/◌, ◌%◌, ◌≤◌, ◌<◌}
 use native.Mathlib.Omega.{arith}
-use native.Mathlib.Numerals.{add-one}
 use native.Mathlib.Nat.{zero-add, div-div-eq-div-mul}
 use mir.Val.{Fits}
 use mir.Syntax.{w8}
 use mathlib.Core.Path.{◌≡◌, refl, sym, ap, ap₂, ◌∙◌}
 use mathlib.Core.List.{List, [], ◌∷◌, ◌++◌}
-use lib.Arith.{digits_mod, digits_div}
 use lib.ListN.{length, get_or, take, drop, set, length-drop, drop_of_length-le, get_or-eq_default}
 use lib.Seq.{sets, sets-eq, get_or-drop, drop-drop, take_all, take-nil, take-length}
 use borrow.Author.Tests.{le-leb, lt-leb}

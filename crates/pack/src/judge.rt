@@ -51,6 +51,7 @@ fn first_of(a: Verdict, b: Verdict) -> Verdict
 }
 
 // A tag and a level, which may be at most cap: 5, 6.
+#[tactic(auto, unfolding(crate::specs::Packing::numbers_verdict))]
 fn numbers(tag: u32, level: u32, cap: u32) -> Verdict
     ensures { result ≡ numbers_verdict cap tag level }
 {
@@ -70,6 +71,7 @@ fn numbers(tag: u32, level: u32, cap: u32) -> Verdict
 }
 
 // A parent that is the right one or not: 28.
+#[tactic(auto, unfolding(crate::specs::Packing::parent_verdict))]
 fn parent(right: bool) -> Verdict
     ensures { result ≡ parent_verdict right }
 {
@@ -81,6 +83,7 @@ fn parent(right: bool) -> Verdict
 }
 
 // A body that ends so far into `lent` bytes: 4.
+#[tactic(auto, unfolding(crate::specs::Packing::body_verdict))]
 fn body(end: usize, lent: usize) -> Verdict
     ensures { result ≡ body_verdict lent end }
 {
@@ -92,6 +95,7 @@ fn body(end: usize, lent: usize) -> Verdict
 }
 
 // A row whose level may be at most cap, with the right parent or not, over `lent` bytes: 5, 6, 28, 4.
+#[tactic(auto, unfolding(crate::specs::Packing::verdict))]
 fn row(
     tag: u32,
     level: u32,
@@ -120,6 +124,7 @@ fn grown(total: usize, len: usize) -> usize
 }
 
 // A stream of `total` bytes into a buffer of `room`: 1, 26.
+#[tactic(auto, unfolding(crate::specs::Packing::closing))]
 fn close(total: usize, room: usize) -> Packed
     ensures { result ≡ closing room total }
 {

@@ -1,5 +1,6 @@
 // Packing a table of records into a stream (document 01, 'Records' and 'Order').
 #![tactic(auto)]
+
 mod judge;
 mod put;
 mod table;

@@ -7,6 +7,7 @@ ghost use Rattle.pack.specs.Rows.{record_of};
 use numbers::{put_all, put32};
 
 // How many bytes a header takes before a body of this length.
+#[tactic(auto, unfolding(records::specs::Records::lead_of))]
 pub fn lead(len: usize) -> usize
     ensures { (result ≡ lead_of len) × (result ≤ 8) }
 {
@@ -14,6 +15,7 @@ pub fn lead(len: usize) -> usize
 }
 
 // The 32 bits of a header.
+#[tactic(auto, unfolding(records::specs::Records::header_word))]
 fn word(tag: u32, level: u32, size: u32) -> u32
     ensures { result ≡ header_word tag level size % 4294967296 }
 {

@@ -1,5 +1,6 @@
 // One paragraph: its view and its rules (document 01, 'Paragraphs').
 #![tactic(auto)]
+
 mod children;
 mod fields;
 mod finding;

@@ -1,6 +1,6 @@
 -- Parent and child are one notion: `parent_of` finds the nearest earlier record of smaller level, and in records that keep the level rule
 -- `children` are exactly the records whose parent that one is, of every tag. Assumes nothing.
-use Prim.Native.Nat.{ℕ, suc, ◌+◌, ◌-◌, ◌≤◌, ◌<◌}
+use Prim.Native.Nat.{ℕ, suc, ◌+◌, ◌≤◌, ◌<◌}
 use native.Mathlib.Omega.{arith}
 use mathlib.Core.Path.{◌≡◌, refl, sym, ap, ◌∙◌, subst}
 use mathlib.Core.Logic.{◌↔◌}

@@ -562,6 +562,12 @@ pub no_record : (at : ℕ) (r : Rec) → NoRecord (N.Record (record_at at r)) �
 no_record at r (inl z) = let y : ◌≡◌ {A = ℕ} 0 1 = z in omega arith
 no_record at r (inr z) = let y : ◌≡◌ {A = ℕ} 0 2 = z in omega arith
 
+-- and as an arm for the rest tells it
+pub not_record : (x : Ahead) → ((r : Record) → x ≡ N.Record r → ⊥) → NoRecord x
+not_record (N.Record r) n = absurd (n r refl)
+not_record (N.Refused f) n = inl refl
+not_record N.End n = inr refl
+
 pub none_here : (s : List ℕ) (at cap : ℕ) (x : Ahead) → x ≡ ahead_of cap s at → NoRecord x → (read_from cap 0 (drop at s)).recs ≡ []
 none_here s at cap (N.Record r) e (inl z) = absurd (let y : ◌≡◌ {A = ℕ} 0 1 = z in omega arith)
 none_here s at cap (N.Record r) e (inr z) = absurd (let y : ◌≡◌ {A = ℕ} 0 2 = z in omega arith)

@@ -1,5 +1,6 @@
 // Reading the records of an unpacked stream (document 01, 'Records').
 #![tactic(auto)]
+
 mod fault;
 mod header;
 mod kind;

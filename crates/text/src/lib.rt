@@ -1,5 +1,6 @@
 // A paragraph's text: what stands at each position, and whether the text keeps its rules.
 #![tactic(auto)]
+
 ghost use Rattle.std.specs.Prelude.{◌≡◌, ◌+◌, ◌-◌, ◌/◌, ◌≤◌, ◌<◌, length, get_or, drop};
 ghost use Rattle.text.specs.Units.{units};
 ghost use Rattle.text.specs.Asked.{class_of, what as begins, width};
