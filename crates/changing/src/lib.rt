@@ -1,5 +1,6 @@
 // The records of a filled paragraph: its header and its children (document 01, 'Filling a field').
 #![tactic(auto)]
+
 mod child;
 mod head;
 

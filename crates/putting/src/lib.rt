@@ -1,5 +1,6 @@
 // Bytes put one behind the other into a buffer, and the character shapes after a fill (document 01, 'Filling a field').
 #![tactic(auto)]
+
 mod put;
 mod shapes;
 

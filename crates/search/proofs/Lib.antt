@@ -1,5 +1,6 @@
 pub mod IdLaws
 pub mod ClosingLaws
+pub mod ElseLaws
 pub mod PassLaws
 pub mod FitLaws
 pub mod BareLaws

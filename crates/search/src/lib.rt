@@ -1,5 +1,6 @@
 // The field search: paragraphs in stream order, and in each its text from the start (document 01, 'Filling a field').
 #![tactic(auto)]
+
 mod passing;
 mod seek;
 

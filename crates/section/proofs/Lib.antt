@@ -1,3 +1,4 @@
+pub mod AheadLaws
 pub mod FirstLaws
 pub mod SeatLaws
 pub mod StrayLaws

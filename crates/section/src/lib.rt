@@ -1,5 +1,6 @@
 // The rules of a section: check and the section read (document 01, 'Order').
 #![tactic(auto)]
+
 mod gather;
 mod opening;
 mod parents;

@@ -1,0 +1,71 @@
+-- The search meets what `hits` has. Assumes nothing.
+use Rattle.std.proofs.Common.{arith, refl, sym, ◌∙◌}
+use Rattle.numbers.proofs.LittleLaws.{slice_bytes}
+use Rattle.text.proofs.ControlLaws.{control_stands, none_stands}
+use Rattle.search.proofs.ElseLaws.{control_not}
+use Rattle.search.proofs.SearchLaws.{look_none, look_past, look_in, walking_to, walking_on, walking_twice, walking_end, walking_few, walking_sound}
+use Rattle.search.proofs.seek.search.Goals as goal
+
+pub overflow_add-number : goal.overflow_add-number
+overflow_add-number c =
+    let p = look_past (slice_bytes c.args.s.now c.type_inv.s) c.search.invariant _ c.in-Passed.ensures _ _ refl in
+    omega (arith, p.1.1.1)
+
+pub search-smaller-in-Passed : goal.search-smaller-in-Passed
+search-smaller-in-Passed c =
+    let p = look_past (slice_bytes c.args.s.now c.type_inv.s) c.search.invariant _ c.in-Passed.ensures _ _ refl in
+    omega (arith, p.1.0, p.1.1.0)
+
+pub search-preserved-in-Passed : goal.search-preserved-in-Passed
+search-preserved-in-Passed c = (look_past (slice_bytes c.args.s.now c.type_inv.s) c.search.invariant _ c.in-Passed.ensures _ _ refl).0
+
+pub loop-what-init : goal.loop-what-init
+loop-what-init c =
+    let e = look_in (slice_bytes c.args.s.now c.type_inv.s) c.search.invariant _ c.in-Paragraph.ensures _ refl in
+    rw (c.begin-passed.ensures, c.text_in-text.ensures) e.begins
+
+pub pass-seen-requires : goal.pass-seen-requires
+pass-seen-requires c =
+    let r = control_stands _ _ _ _ _ (sym c.in-Stands.ensures) in
+    let k = walking_to c.loop-what.invariant r in
+    (walking_few k r.onward, k.fewer)
+
+pub meet-met-requires : goal.meet-met-requires
+meet-met-requires c =
+    let r = control_stands _ _ _ _ _ (sym c.in-Stands.ensures) in
+    walking_sound (walking_to c.loop-what.invariant r) r.onward
+
+pub loop-what-smaller : goal.loop-what-smaller
+loop-what-smaller c =
+    let r = control_stands _ _ _ _ _ (sym c.in-Stands.ensures) in
+    omega (arith, r.from, r.onward.rises, r.onward.fits)
+
+pub loop-what-preserved : goal.loop-what-preserved
+loop-what-preserved c =
+    let r = control_stands _ _ _ _ _ (sym c.in-Stands.ensures) in
+    walking_on (slice_bytes c.args.s.now c.type_inv.s) (walking_to c.loop-what.invariant r) r.onward _ c.pass-seen.ensures _ c.meet-met.ensures
+
+pub overflow_add-number-in-Paragraph : goal.overflow_add-number-in-Paragraph
+overflow_add-number-in-Paragraph c =
+    let e = look_in (slice_bytes c.args.s.now c.type_inv.s) c.search.invariant _ c.in-Paragraph.ensures _ refl in
+    omega (arith, c.search.invariant.few, e.rises, e.inside)
+
+pub search-smaller : goal.search-smaller
+search-smaller c =
+    let e = look_in (slice_bytes c.args.s.now c.type_inv.s) c.search.invariant _ c.in-Paragraph.ensures _ refl in
+    omega (arith, e.rises, e.inside)
+
+pub search-preserved : goal.search-preserved
+search-preserved c =
+    let e = look_in (slice_bytes c.args.s.now c.type_inv.s) c.search.invariant _ c.in-Paragraph.ensures _ refl in
+    walking_end c.loop-what.invariant e.number_is
+    (none_stands _ _ _ c.next_control.ensures (control_not _ c.in_default.not-Stands) c.loop-what.invariant.sound)
+
+pub returns-in-Nothing : goal.returns-in-Nothing
+returns-in-Nothing c = look_none (slice_bytes c.args.s.now c.type_inv.s) c.search.invariant _ c.in-Nothing.ensures refl
+
+pub returns-in-Twice : goal.returns-in-Twice
+returns-in-Twice c =
+    let r = control_stands _ _ _ _ _ (sym c.in-Stands.ensures) in
+    let k = walking_on (slice_bytes c.args.s.now c.type_inv.s) (walking_to c.loop-what.invariant r) r.onward _ c.pass-seen.ensures _ c.meet-met.ensures in
+    walking_twice k c.in-Twice.is
