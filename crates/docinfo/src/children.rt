@@ -7,6 +7,7 @@ ghost use Rattle.docinfo.specs.Counts.{once, tally};
 use records::{Ahead, Offset, record_at};
 
 // One more for a child at level n with the tag.
+#[tactic(auto, unfolding(crate::specs::Counts::once))]
 fn one_if(level: u32, n: u32, tag: u32, wanted: u32) -> usize
     ensures { (result ≡ once (eqb level n && eqb tag wanted)) × (result ≤ 1) }
 {

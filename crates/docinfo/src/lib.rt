@@ -1,5 +1,6 @@
 // DocInfo: read with its counts (document 01, 'DocInfo').
 #![tactic(auto)]
+
 mod children;
 mod counts;
 mod read;

@@ -12,6 +12,7 @@ use numbers::part;
 use records::{Answer, Fault, Offset, Record, refused};
 
 // 17 for record 16, 17 for record 17, 18; else n records are accepted.
+#[tactic(auto, using(crate::proofs::AnswerLaws::bodies_16))]
 fn judge_bodies(s: &[u8], n: usize, properties: Record, mappings: Record) -> Answer
     requires { (InStream s.now properties) × (InStream s.now mappings) × (mappings.level ≡ 0) }
     ensures { result ≡ settled n (bodies_fault (located_at s.now properties) (located_at s.now mappings)) }

@@ -20,6 +20,7 @@ pub enum Form {
 }
 
 // What record 17 holds, by its length.
+#[tactic(auto, unfolding(crate::specs::Widths::form_of))]
 pub fn form_of(len: usize) -> Form
     ensures { result ≡ form_of len }
 {
@@ -35,6 +36,7 @@ pub fn form_of(len: usize) -> Form
 }
 
 // The bytes of a count.
+#[tactic(auto, unfolding(crate::specs::Widths::count_bytes))]
 pub fn count_bytes(width: Width) -> usize
     ensures { (result ≡ count_bytes width) × (result ≤ 4) }
 {
@@ -45,6 +47,7 @@ pub fn count_bytes(width: Width) -> usize
 }
 
 // How many numbers a count can hold.
+#[tactic(auto, unfolding(crate::specs::Widths::count_bytes, numbers::specs::Little::span))]
 pub fn count_span(width: Width) -> usize
     ensures { result ≡ span (count_bytes width) }
 {
@@ -55,6 +58,7 @@ pub fn count_span(width: Width) -> usize
 }
 
 // The bits of a count at the front of s.
+#[tactic(auto, unfolding(crate::specs::Widths::count_bytes))]
 pub fn count(s: &[u8], width: Width) -> usize
     ensures { (result ≡ little (count_bytes width) s.now) × (result < 4294967296) }
 {

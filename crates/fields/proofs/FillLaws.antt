@@ -110,6 +110,9 @@ pub told_roomless : (bs out : List ℕ) (n : ℕ) → n ≡ min largest (length 
     → (r ≡ fits (length bs) (length out)) × (out ≡ written (leaves r bs) out)
 told_roomless bs out n is r e h k = rw e (sheet_roomless bs out n is h k)
 
+-- its refusals
+pub ruleset put_laws = (told-long, told_roomless)
+
 -- ---- the fill of a sound section, by what was found
 
 abbrev Outcomes : ℕ → List ℕ → List Rec → List ℕ → Answer → List ℕ → Type 0

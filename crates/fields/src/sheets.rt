@@ -12,6 +12,7 @@ use search::{Hit, Met, SectionSearch, search_section};
 use writing::{measure, write};
 
 // The field that may be filled: 20, then 21 to 23, then 24.
+#[tactic(auto, unfolding(crate::specs::Outcomes::fillable_field, crate::specs::Outcomes::unmarked_field))]
 fn find_fillable(met: Met, value: &[u8]) -> Searched
     ensures { result ≡ fillable_field value.now met }
 {
@@ -31,6 +32,7 @@ fn find_fillable(met: Met, value: &[u8]) -> Searched
 }
 
 // The sheet measured, 25 and 26 judged, and the sheet written.
+#[tactic(auto, using(crate::proofs::FillLaws::put_laws))]
 fn put_sheet(s: &[u8], h: Hit, value: &[u8], out: &mut [u8]) -> Answer
     ensures { (result ≡ fits (length (hit_sheet h value.now s.now)) (length out.old)) × (out.new ≡ written (leaves result (hit_sheet h value.now s.now)) out.old) }
 {

@@ -1,7 +1,7 @@
 // The text walk: a paragraph's bytes and the present position together (document 01, 'Text units').
-// No function over a struct that holds a slice is covered, so each is proved by hand, and each is thin: it takes the walk
-// apart and leaves the work to a covered function on the slice and the position.
+// Each function over the walk is thin: it takes the walk apart and leaves the work to a function on the slice and the position.
 #![tactic(auto)]
+
 ghost use Rattle.std.specs.Prelude.{◌≡◌, ◌+◌, drop};
 ghost use Rattle.text.specs.Units.{units};
 ghost use Rattle.text.specs.Walk.{run, is_extended};
@@ -55,7 +55,7 @@ pub fn stands<'a>(r: Reader<'a>) -> Step
     step_at(r.text, r.at)
 }
 
-// What stands at the next unit below 32, for callers that have no walk: the contract says nothing of a reader, so theirs are covered
+// What stands at the next unit below 32, for callers that have no walk: the contract is on the slice and the position alone
 // (document 01, 'Filling a field').
 pub fn next_control(text: &[u8], from: Position) -> Step
     ensures { result ≡ control_at (units text.now) from.0 }

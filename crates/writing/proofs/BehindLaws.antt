@@ -5,12 +5,16 @@ use native.Mathlib.Numerals.{add-one}
 use mathlib.Core.Path.{◌≡◌, refl, sym, ap, ap₂, ◌∙◌}
 use mathlib.Core.Bool.{Bool, true, false, cond}
 use mathlib.Core.List.{List, [], ◌∷◌, ◌++◌}
+use mathlib.Core.Logic.{inl, inr}
 use lib.Dec.{eqb}
 use borrow.Author.Tests.{lt-ltb, le-ltb, eq-eqb, ne_eqb}
 use lib.ListN.{length, drop, length-take, length-drop}
 use Rattle.records.specs.Kinds as kind
 use Rattle.records.specs.Records.{Rec, encode_one, size}
 use Rattle.records.specs.declared.header.Record.{Record}
+use Rattle.records.specs.declared.header.Ahead.{Ahead}
+use Rattle.records.specs.declared.header.Ahead.TheVariants as N
+use Rattle.records.proofs.ReadingLaws.{NoRecord}
 use Rattle.paragraph.specs.View.{side}
 use Rattle.paragraph.specs.Stream.{records_in}
 use Rattle.paragraph.specs.Places.{body_of}
@@ -86,6 +90,12 @@ module _ (f : Field) (value : List ℕ) (n j : ℕ) (s : List ℕ) (at : ℕ) wh
 pub rec_is : {s : List ℕ} {place : ℕ} {r : Record} (d : Read s place r) {body : List ℕ} → body ≡ body_of s r → record_with r body ≡ d.rec
 rec_is {s} {place} {r} d {body} e =
     ap₂ (λ (x y : ℕ). record { tag = x; level = y; body = body }) d.tag_is d.level_is ∙ ap (λ (l : List ℕ). record { tag = d.rec.tag; level = d.rec.level; body = l }) (e ∙ d.body_is)
+
+-- nothing ahead, where it is no record
+pub no_record_of : (x : Ahead) → ((r : Record) → x ≡ N.Record r → ⊥) → NoRecord x
+no_record_of (N.Record r) h = absurd (h r refl)
+no_record_of (N.Refused f) h = inl refl
+no_record_of N.End h = inr refl
 
 -- ---- the loop
 

@@ -1,5 +1,6 @@
 // The sheet: its length, and its bytes into a buffer (document 01, 'Filling a field').
 #![tactic(auto)]
+
 mod behind;
 mod sheet;
 
