@@ -11,8 +11,7 @@ test:
 
 # target/staticlib/libhost.a, the library to link on x86-64.
 library:
-	@tools/proving 'proving host' target/library.log rt staticlib host
-	@tail -n 1 target/library.log
+	@tools/library
 
 # target/spool, the host in C, for this machine.
 spool:

@@ -14,11 +14,11 @@ use Rattle.pack.proofs.Reader.{accepted}
 use Rattle.host.specs.ToldPack.{pack_sum, ToldPack}
 
 module _ {count : ℕ} {k : Lists} {bytes out out' : List ℕ} where
-  sum_of : (a : Packed) → Packs count k bytes out a out' → host_form (number a) (place_bits (place a)) 0 ≡ pack_sum a
-  sum_of (P.Length n) w =
+  sum_of_lem : (a : Packed) → Packs count k bytes out a out' → host_form (number a) (place_bits (place a)) 0 ≡ pack_sum a
+  sum_of_lem (P.Length n) w =
       ap (λ (x : ℕ). host_form 0 x 0) (in_full (accepted count k bytes (length out) n (sym w.answer_is)).limited)
-  sum_of (P.Refused f i) w = refl
+  sum_of_lem (P.Refused f i) w = refl
 
   pub tells_pack : {a : Packed} {told : ℕ} → Packs count k bytes out a out' → told ≡ host_form (number a) (place_bits (place a)) 0
       → ToldPack count k bytes out told out'
-  tells_pack {a} {told} w e = record { answer = a; packs = w; sum = e ∙ sum_of a w }
+  tells_pack {a} {told} w e = record { answer = a; packs = w; sum = e ∙ sum_of_lem a w }

@@ -172,10 +172,10 @@ module _ (s : List ℕ) (id id' : ℕ) (ne : id ≡ id' → ⊥) (w u : List ℕ
   pub same-sheet : (out₃ out₄ : List ℕ) (n₃ n₄ : ℕ) (left₃ left₄ : List ℕ) → InOrder s id' u id w out₃ out₄ n₃ n₄ left₃ left₄
       → (n₄ ≡ n₂) × (take n₄ left₄ ≡ take n₂ left₂)
   same-sheet out₃ out₄ n₃ n₄ left₃ left₄ o' =
-      by (orders out₃ out₄ (A.Accepted n₃) (A.Accepted n₄) left₃ left₄ o'.first (λ m e. rw (number_of m e) o'.second))
+      by (orders out₃ out₄ (A.Accepted n₃) (A.Accepted n₄) left₃ left₄ o'.first (λ m e. rw (number_of_lem m e) o'.second))
     where
-      number_of : (m : ℕ) → A.Accepted n₃ ≡ A.Accepted m → m ≡ n₃
-      number_of m e = cc
+      number_of_lem : (m : ℕ) → A.Accepted n₃ ≡ A.Accepted m → m ≡ n₃
+      number_of_lem m e = cc
 
       by : Other (A.Accepted n₃) (A.Accepted n₄) n₂ left₂ left₄ → (n₄ ≡ n₂) × (take n₄ left₄ ≡ take n₂ left₂)
       by (first_stopped l) = absurd (let z : ◌≡◌ {A = ℕ} 0 1 = cc in omega arith)

@@ -43,10 +43,10 @@ module _ (s : List ℕ) where
   unfolding encode
   behind at r rs e = sym (drop-drop (size r) at s) ∙ ap (drop (size r)) e ∙ drop_at (encode_one r) (encode rs) (size r) (length-encode_one r)
 
-  body_at : (at : ℕ) (r : Rec) (rs : List Rec) → drop at s ≡ encode (r ∷ rs)
+  body_at_lem : (at : ℕ) (r : Rec) (rs : List Rec) → drop at s ≡ encode (r ∷ rs)
       → take (length r.body) (drop (at + lead_of (length r.body)) s) ≡ r.body
   unfolding encode encode_one
-  body_at at r rs e =
+  body_at_lem at r rs e =
       let n = length r.body in
       let h = header_of r.tag r.level n in
       let there : drop (at + lead_of n) s ≡ r.body ++ encode rs
@@ -59,7 +59,7 @@ module _ (s : List ℕ) where
   unfolding rows_of
   point_back at [] e = refl
   point_back at (r ∷ rs) e =
-      ap₂ (λ (b : List ℕ) (x : List Rec). record_of r.tag r.level b ∷ x) (body_at at r rs e) (point_back (at + size r) rs (behind at r rs e))
+      ap₂ (λ (b : List ℕ) (x : List Rec). record_of r.tag r.level b ∷ x) (body_at_lem at r rs e) (point_back (at + size r) rs (behind at r rs e))
 
   pub sound_back : (at cap : ℕ) (rs : List Rec) → drop at s ≡ encode rs → Lawful cap rs → SoundRows cap (length s) (rows_of at rs)
   unfolding rows_of size

@@ -121,8 +121,8 @@ lead_most m = by (ltb m 4095)
     by true = omega arith
     by false = omega arith
 
-pub head_of : (tag level n lead : ℕ) (zs all : List ℕ) → length zs ≡ 8 → lead ≡ lead_of n → all ≡ laid (header_of tag level n) zs → take lead all ≡ header_of tag level n
-head_of tag level n lead zs all h k e =
+pub head_of_lem : (tag level n lead : ℕ) (zs all : List ℕ) → length zs ≡ 8 → lead ≡ lead_of n → all ≡ laid (header_of tag level n) zs → take lead all ≡ header_of tag level n
+head_of_lem tag level n lead zs all h k e =
     laid_first (header_of tag level n) zs all lead (omega (arith, length-header_of tag level n, lead_most n)) (length-header_of tag level n ∙ sym k) e
 
 -- ---- a loop that puts: what it has put, and what is left

@@ -75,14 +75,14 @@ module _ (n tag level : ℕ) where
   part_owned e t = rw (e, ne_eqb tag 71 t)
 
   -- and back
-  owned_by : (x : Side) → side n tag level ≡ x → part_by x tag ≡ S.Owned → (side n tag level ≡ S.Owned) × (tag ≡ 71 → ⊥)
-  owned_by S.Beyond e q = absurd (let z : ◌≡◌ {A = ℕ} 0 1 = cc in omega arith)
-  owned_by S.Passed e q = absurd (let z : ◌≡◌ {A = ℕ} 0 1 = cc in omega arith)
-  owned_by S.Owned e q = (e, λ t. absurd (let z : S.Passed ≡ S.Owned = rw (eq-eqb tag 71 t) at q in let y : ◌≡◌ {A = ℕ} 0 1 = cc in omega arith))
+  owned_by_lem : (x : Side) → side n tag level ≡ x → part_by x tag ≡ S.Owned → (side n tag level ≡ S.Owned) × (tag ≡ 71 → ⊥)
+  owned_by_lem S.Beyond e q = absurd (let z : ◌≡◌ {A = ℕ} 0 1 = cc in omega arith)
+  owned_by_lem S.Passed e q = absurd (let z : ◌≡◌ {A = ℕ} 0 1 = cc in omega arith)
+  owned_by_lem S.Owned e q = (e, λ t. absurd (let z : S.Passed ≡ S.Owned = rw (eq-eqb tag 71 t) at q in let y : ◌≡◌ {A = ℕ} 0 1 = cc in omega arith))
 
   part_says : part_of n tag level ≡ S.Owned → (side n tag level ≡ S.Owned) × (tag ≡ 71 → ⊥)
   unfolding part_of
-  part_says q = owned_by (side n tag level) refl q
+  part_says q = owned_by_lem (side n tag level) refl q
 
   beyond_by : (x : Side) → side n tag level ≡ x → part_by x tag ≡ S.Beyond → side n tag level ≡ S.Beyond
   beyond_by S.Beyond e q = e

@@ -491,29 +491,29 @@ module _ (s : List ℕ) (lo at : ℕ) (r : Record) (d : Read s at r) (slots : Li
     abbrev then : List ℕ
     then = fresh slots (6 * own_slot) taken_as_lem
 
-    room_for : 6 * own_slot + 6 ≤ length slots
-    room_for = omega (arith, long)
+    room_for_lem : 6 * own_slot + 6 ≤ length slots
+    room_for_lem = omega (arith, long)
 
     header_taken : r.tag ≡ 66 → Kept s lo (r.level + 1) then own_slot r.next.0
     header_taken t =
         record {
           place = at;
-          is = fresh_head slots (6 * own_slot) taken_as_lem room_for ∙ rw (eq-eqb r.tag 66 t);
+          is = fresh_head slots (6 * own_slot) taken_as_lem room_for_lem ∙ rw (eq-eqb r.tag 66 t);
           head = d.rec;
           stands = d.stands;
           level_is = omega (arith, d.level_is);
-          named = λ k p q. inl (fresh-entry slots (6 * own_slot) taken_as_lem room_for k p q);
+          named = λ k p q. inl (fresh-entry slots (6 * own_slot) taken_as_lem room_for_lem k p q);
           parts =
               inl (
                 omega arith,
-                subst (λ (p : Parts). Gathering s (lo + own_slot) (at + size d.rec) p r.next.0) (sym (fresh_parts slots (6 * own_slot) taken_as_lem room_for s))
+                subst (λ (p : Parts). Gathering s (lo + own_slot) (at + size d.rec) p r.next.0) (sym (fresh_parts slots (6 * own_slot) taken_as_lem room_for_lem s))
                     (subst (λ (n : ℕ). Gathering s (lo + own_slot) (at + size d.rec) nothing n) (sym d.next-is) (gather_start s (lo + own_slot) (at + size d.rec))),
               );
         }
 
     own_taken : (r.tag ≡ 66) ⊎ (r.tag ≡ 66 → ⊥) → Holds s lo (r.level + 1) then own_slot r.next.0
     own_taken (inl t) = inr (header_taken t)
-    own_taken (inr t) = inl (fresh_head slots (6 * own_slot) taken_as_lem room_for ∙ rw (ne_eqb r.tag 66 t))
+    own_taken (inr t) = inl (fresh_head slots (6 * own_slot) taken_as_lem room_for_lem ∙ rw (ne_eqb r.tag 66 t))
 
   -- one level more may come
   one_more_level : (n from : ℕ) (p : Parts) (q : ℕ) → (n ≡ r.level + 1 → ⊥) → Parted s n r.level from p q → Parted s n (r.level + 1) from p q
