@@ -1,5 +1,6 @@
 // The entries of character shapes and of marks.
 #![tactic(auto)]
+
 ghost use Rattle.std.specs.Prelude.{◌≡◌, max};
 ghost use Rattle.entries.specs.Entries.{shapes_fault, marks_fault, entries_of};
 

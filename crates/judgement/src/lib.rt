@@ -1,5 +1,6 @@
 // The rules of one paragraph in document 01's order, over the stream.
 #![tactic(auto)]
+
 mod judge;
 mod rules;
 
