@@ -1,5 +1,6 @@
 // What filling a field does to a paragraph's numbers, and what its calls answer (document 01, 'Filling a field').
 #![tactic(auto)]
+
 ghost use Rattle.std.specs.Prelude.{◌≡◌};
 ghost use Rattle.filling.specs.Filling.{with_bit15};
 
@@ -13,6 +14,7 @@ pub enum TextAnswer {
 }
 
 // Properties with bit 15 set: contents altered.
+#[tactic(auto, using(crate::proofs::AnswerLaws::bit_set, crate::proofs::AnswerLaws::bit_clear))]
 pub fn with_bit_15(properties: u32) -> u32
     ensures { result ≡ with_bit15 properties }
 {

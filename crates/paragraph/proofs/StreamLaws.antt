@@ -125,12 +125,6 @@ read_at s at bs r e =
       stands = k;
     }
 
--- what is no record is one of the other two
-pub no_record_of : (x : Ahead) → ((r : Record) → x ≡ N.Record r → ⊥) → NoRecord x
-no_record_of (N.Record r) h = absurd (h r refl)
-no_record_of (N.Refused f) h = inl refl
-no_record_of N.End h = inr refl
-
 -- and where it found none
 none_by : (s : List ℕ) (at : ℕ) (b : Bool) (a : Stands) (x : Ahead) → ltb at (length s) ≡ b → stands_at 1023 (drop at s) ≡ a → x ≡ cond b (ahead_by at a) N.End → NoRecord x
     → records_in (drop at s) ≡ []

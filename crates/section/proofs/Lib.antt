@@ -1,4 +1,3 @@
-pub mod AheadLaws
 pub mod FirstLaws
 pub mod SeatLaws
 pub mod StrayLaws

@@ -1,7 +1,7 @@
 -- The step at the next unit below 32. Assumes nothing.
 use Prim.Native.Nat.{ℕ, ◌+◌, ◌≤◌, ◌<◌}
 use native.Mathlib.Omega.{arith}
-use mathlib.Core.Path.{◌≡◌, sym, ap, ◌∙◌}
+use mathlib.Core.Path.{◌≡◌, refl, sym, ap, ◌∙◌}
 use mathlib.Core.Logic.{◌↔◌, inl, inr}
 use mathlib.Core.Option.{Option, none, some}
 use mathlib.Core.List.{List, [], ◌∷◌, ◌++◌}
@@ -98,6 +98,12 @@ module _ (us : List ℕ) (p : ℕ) where
 -- a step that met no control, whichever way: as `let .. else` leaves it
 abbrev pub NoControl : Step → Type 0
 NoControl x = OneOf (1 ∷ 2 ∷ []) (tag_of step.the_type x)
+
+-- and as an arm for the rest tells it
+pub not_control : (x : Step) → ((a : Position) (w : Standing) (k : Cursor) → x ≡ Stands a w k → ⊥) → NoControl x
+not_control (Stands a w k) n = absurd (n a w k refl)
+not_control (Broken q) n = inl refl
+not_control End n = inr refl
 
 pub none_stands : (us : List ℕ) (p : ℕ) (x : Step) → x ≡ control_at us p → NoControl x → fault_at us p ≡ none → Ended us p
 none_stands us p (Stands a s c) e (inl z) n = absurd (let y : ◌≡◌ {A = ℕ} 0 1 = z in omega arith)

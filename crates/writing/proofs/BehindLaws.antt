@@ -91,12 +91,6 @@ pub rec_is : {s : List ℕ} {place : ℕ} {r : Record} (d : Read s place r) {bod
 rec_is {s} {place} {r} d {body} e =
     ap₂ (λ (x y : ℕ). record { tag = x; level = y; body = body }) d.tag_is d.level_is ∙ ap (λ (l : List ℕ). record { tag = d.rec.tag; level = d.rec.level; body = l }) (e ∙ d.body_is)
 
--- nothing ahead, where it is no record
-pub no_record_of : (x : Ahead) → ((r : Record) → x ≡ N.Record r → ⊥) → NoRecord x
-no_record_of (N.Record r) h = absurd (h r refl)
-no_record_of (N.Refused f) h = inl refl
-no_record_of N.End h = inr refl
-
 -- ---- the loop
 
 pub record Behind (out₀ : List ℕ) (at₀ : ℕ) (f : Field) (value : List ℕ) (n : ℕ) (s : List ℕ) (from place p nth : ℕ) (out : List ℕ) : Type 0 where

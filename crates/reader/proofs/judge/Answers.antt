@@ -1,4 +1,4 @@
-use Rattle.std.proofs.Common.{arith, sym, ap, ◌∙◌}
+use Rattle.std.proofs.Common.{rules, arith, sym, ap, ◌∙◌}
 use Rattle.text.specs.Answers.{position}
 use Rattle.text.specs.declared.Judged.TheVariants as judgement
 use Rattle.text.proofs.UnitLaws.{length-units}
@@ -19,7 +19,7 @@ loop-at-smaller c =
     omega (arith, r.from, r.onward.rises, r.onward.fits)
 
 pub loop-at-preserved : goal.loop-at-preserved
-loop-at-preserved c = walked_on c.loop-at.invariant (control_stands _ _ _ _ _ (sym c.in-Stands.ensures)) c.extended-count.ensures
+loop-at-preserved c = walked_on c.loop-at.invariant (control_stands _ _ _ _ _ (sym c.in-Stands.ensures)) (search rules)
 
 pub returns-in-Broken : goal.returns-in-Broken
 returns-in-Broken c = walked_broken c.loop-at.invariant (control_broken _ _ _ (sym c.in-Broken.ensures))

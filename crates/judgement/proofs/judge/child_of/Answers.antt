@@ -1,11 +1,12 @@
 use Rattle.std.proofs.Common.{sym, arith}
 use Rattle.numbers.proofs.LittleLaws.{slice_bytes}
-use Rattle.paragraph.proofs.StreamLaws.{read_at, none_at, no_record_of}
+use Rattle.paragraph.proofs.StreamLaws.{read_at, none_at}
 use Rattle.judgement.proofs.JudgeLaws.{front-child, child_none}
+use Rattle.records.proofs.ReadingLaws.{not_record}
 use Rattle.judgement.proofs.judge.child_of.Goals as goal
 
 pub returns-in_default : goal.returns-in_default
-returns-in_default c = child_none _ _ _ _ (none_at _ _ _ c.record_at.ensures (no_record_of _ c.in_default.not-Record))
+returns-in_default c = child_none _ _ _ _ (none_at _ _ _ c.record_at.ensures (not_record _ c.in_default.not-Record))
 
 pub overflow_add-r : goal.overflow_add-r
 overflow_add-r c =

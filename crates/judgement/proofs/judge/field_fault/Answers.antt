@@ -8,24 +8,18 @@ use Rattle.text.specs.declared.Cursor.{Cursor}
 use Rattle.text.specs.declared.Step.{Step}
 use Rattle.text.specs.declared.Step.TheVariants.{Stands, Broken, End}
 use Rattle.text.proofs.UnitLaws.{length-units}
-use Rattle.text.proofs.ControlLaws.{NoControl, control_stands, none_stands}
+use Rattle.text.proofs.ControlLaws.{NoControl, control_stands, none_stands, not_control}
 use Rattle.paragraph.specs.Rules.{field_short}
 use Rattle.paragraph.specs.declared.fields.Owned.TheVariants as K
 use Rattle.paragraph.proofs.FieldLaws.{outcome, walking_start, walking_to, walking_nobody, walking_other, walking_header, walking_short, walking_lacking, walking_end}
 use Rattle.judgement.proofs.judge.field_fault.Goals as goal
-
--- a step that met no control, by what `let .. else` leaves
-no_control_of : (x : Step) → ((a : Position) (w : Standing) (k : Cursor) → x ≡ Stands a w k → ⊥) → NoControl x
-no_control_of (Stands a w k) h = absurd (h a w k refl)
-no_control_of (Broken p) h = inl refl
-no_control_of End h = inr refl
 
 pub loop-what-init : goal.loop-what-init
 loop-what-init c = walking_start _ _ _ _ c.requires
 
 pub returns-in_default : goal.returns-in_default
 returns-in_default c =
-    walking_end c.loop-what.invariant (none_stands _ _ _ c.next_control.ensures (no_control_of _ c.in_default.not-Stands) c.loop-what.invariant.sound)
+    walking_end c.loop-what.invariant (none_stands _ _ _ c.next_control.ensures (not_control _ c.in_default.not-Stands) c.loop-what.invariant.sound)
 
 pub loop-what-smaller-in-Nobody : goal.loop-what-smaller-in-Nobody
 loop-what-smaller-in-Nobody c =

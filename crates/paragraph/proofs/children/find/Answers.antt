@@ -1,7 +1,8 @@
 use Rattle.std.proofs.Common.{refl, sym, arith}
 use Rattle.numbers.proofs.LittleLaws.{slice_bytes}
-use Rattle.paragraph.proofs.StreamLaws.{read_at, none_at, no_record_of}
+use Rattle.paragraph.proofs.StreamLaws.{read_at, none_at}
 use Rattle.paragraph.proofs.FindLaws.{seek_beyond, seek_here, seek_later, seek_passed, seek_none}
+use Rattle.records.proofs.ReadingLaws.{not_record}
 use Rattle.paragraph.proofs.children.find.Goals as goal
 use Rattle.paragraph.proofs.children.find.Goals.{in-Owned+else-left-eq0, in-Passed}
 
@@ -9,7 +10,7 @@ pub loop-r-init : goal.loop-r-init
 loop-r-init c = record { rest = refl }
 
 pub returns-in_default : goal.returns-in_default
-returns-in_default c = seek_none c.loop-r.invariant (none_at _ _ _ c.record_at.ensures (no_record_of _ c.in_default.not-Record))
+returns-in_default c = seek_none c.loop-r.invariant (none_at _ _ _ c.record_at.ensures (not_record _ c.in_default.not-Record))
 
 pub returns-in-Beyond : goal.returns-in-Beyond
 returns-in-Beyond c =

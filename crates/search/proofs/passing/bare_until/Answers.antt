@@ -2,12 +2,12 @@
 use Rattle.std.proofs.Common.{arith, sym}
 use Rattle.numbers.proofs.LittleLaws.{slice_bytes}
 use Rattle.paragraph.proofs.StreamLaws.{read_at, none_at}
-use Rattle.search.proofs.ElseLaws.{record_not}
 use Rattle.search.proofs.BareLaws.{baring_end, baring_other, baring_on, baring_none}
+use Rattle.records.proofs.ReadingLaws.{not_record}
 use Rattle.search.proofs.passing.bare_until.Goals as goal
 
 pub returns-in_default : goal.returns-in_default
-returns-in_default c = baring_none c.loop-r.invariant (none_at _ _ _ c.record_at.ensures (record_not _ c.in_default.not-Record))
+returns-in_default c = baring_none c.loop-r.invariant (none_at _ _ _ c.record_at.ensures (not_record _ c.in_default.not-Record))
 
 pub returns-in-Beyond : goal.returns-in-Beyond
 returns-in-Beyond c =

@@ -3,12 +3,13 @@ use Rattle.std.proofs.Common.{arith, sym, ap, ◌∙◌, drop}
 use Rattle.numbers.specs.Little.{little}
 use Rattle.numbers.proofs.LittleLaws.{slice_bytes}
 use Rattle.paragraph.proofs.StreamLaws.{read_at, none_at}
-use Rattle.search.proofs.ElseLaws.{record_not, end_not}
+use Rattle.search.proofs.ElseLaws.{end_not}
 use Rattle.search.proofs.LookLaws.{look_empty, look_other, look_bare, look_paragraph}
+use Rattle.records.proofs.ReadingLaws.{not_record}
 use Rattle.search.proofs.passing.look_at.Goals as goal
 
 pub returns-in_default : goal.returns-in_default
-returns-in_default c = look_empty _ _ _ (none_at _ _ _ c.record_at.ensures (record_not _ c.in_default.not-Record))
+returns-in_default c = look_empty _ _ _ (none_at _ _ _ c.record_at.ensures (not_record _ c.in_default.not-Record))
 
 pub returns-then-r-ne-PARAGRAPH_HEADER : goal.returns-then-r-ne-PARAGRAPH_HEADER
 returns-then-r-ne-PARAGRAPH_HEADER c =

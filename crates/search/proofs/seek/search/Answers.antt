@@ -1,8 +1,7 @@
 -- The search meets what `hits` has. Assumes nothing.
 use Rattle.std.proofs.Common.{arith, refl, sym, ◌∙◌}
 use Rattle.numbers.proofs.LittleLaws.{slice_bytes}
-use Rattle.text.proofs.ControlLaws.{control_stands, none_stands}
-use Rattle.search.proofs.ElseLaws.{control_not}
+use Rattle.text.proofs.ControlLaws.{control_stands, none_stands, not_control}
 use Rattle.search.proofs.SearchLaws.{look_none, look_past, look_in, walking_to, walking_on, walking_twice, walking_end, walking_few, walking_sound}
 use Rattle.search.proofs.seek.search.Goals as goal
 
@@ -59,7 +58,7 @@ pub search-preserved : goal.search-preserved
 search-preserved c =
     let e = look_in (slice_bytes c.args.s.now c.type_inv.s) c.search.invariant _ c.in-Paragraph.ensures _ refl in
     walking_end c.loop-what.invariant e.number_is
-    (none_stands _ _ _ c.next_control.ensures (control_not _ c.in_default.not-Stands) c.loop-what.invariant.sound)
+    (none_stands _ _ _ c.next_control.ensures (not_control _ c.in_default.not-Stands) c.loop-what.invariant.sound)
 
 pub returns-in-Nothing : goal.returns-in-Nothing
 returns-in-Nothing c = look_none (slice_bytes c.args.s.now c.type_inv.s) c.search.invariant _ c.in-Nothing.ensures refl

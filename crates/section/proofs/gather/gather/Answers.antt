@@ -1,9 +1,9 @@
 use Rattle.std.proofs.Common.{ℕ, arith, sym, ◌∙◌}
 use lib.ListN.{length-replicate}
 use Rattle.numbers.proofs.LittleLaws.{slice_bytes}
-use Rattle.paragraph.proofs.StreamLaws.{Read, read_at, none_at}
-use Rattle.section.proofs.AheadLaws.{no_record_by}
-use Rattle.section.proofs.GatherLaws.{Gathers, zeros, gathers_start, gathers_ready, gathers_held, gathers_unheld, gathers_far, gathers_last, gathers_first}
+use Rattle.paragraph.proofs.StreamLaws.{read_at, none_at}
+use Rattle.section.proofs.GatherLaws.{zeros, gathers_start, gathers_ready, gathers_held, gathers_unheld, gathers_far, gathers_last, gathers_first}
+use Rattle.records.proofs.ReadingLaws.{not_record}
 use Rattle.section.proofs.gather.gather.Goals as goal
 use Rattle.section.proofs.gather.gather.Goals.{then-inside, then-held, else-held, else-inside}
 
@@ -60,12 +60,12 @@ loop-r-preserved c =
 pub judge_slots-requires : goal.judge_slots-requires
 judge_slots-requires c = record {
   slots_len = c.loop-r.invariant.0.long;
-  by_index = gathers_last c.loop-r.invariant.0 (none_at _ _ _ c.record_at.ensures (no_record_by _ c.in_default.not-Record));
+  by_index = gathers_last c.loop-r.invariant.0 (none_at _ _ _ c.record_at.ensures (not_record _ c.in_default.not-Record));
 }
 
 pub returns : goal.returns
 returns c =
-    let e = none_at c.args.s.now c.loop-r.at.0 _ c.record_at.ensures (no_record_by _ c.in_default.not-Record) in
+    let e = none_at c.args.s.now c.loop-r.at.0 _ c.record_at.ensures (not_record _ c.in_default.not-Record) in
     let k = c.loop-r.invariant in (
       c.sooner.ensures.0 ∙ gathers_first k.0 e _ c.judge_slots.ensures.0,
       c.sooner.ensures.1 _ k.1 c.judge_slots.ensures.1,

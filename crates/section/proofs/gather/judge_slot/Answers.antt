@@ -1,9 +1,9 @@
-use Rattle.std.proofs.Common.{◌≡◌, ◌+◌, ◌∙◌, arith, sym, drop}
+use Rattle.std.proofs.Common.{◌∙◌, arith, sym}
 use Rattle.numbers.proofs.LittleLaws.{slice_bytes}
-use Rattle.paragraph.proofs.StreamLaws.{Read, read_at, none_at}
+use Rattle.paragraph.proofs.StreamLaws.{read_at, none_at}
 use Rattle.judgement.proofs.JudgeLaws.{front-judged}
-use Rattle.section.proofs.AheadLaws.{no_record_by}
 use Rattle.section.proofs.SlotLaws.{fault_empty, fault_lost, fault_none, fault_there, ended_parts}
+use Rattle.records.proofs.ReadingLaws.{not_record}
 use Rattle.section.proofs.gather.judge_slot.Goals as goal
 
 pub returns-then-header-eq0 : goal.returns-then-header-eq0
@@ -12,7 +12,7 @@ returns-then-header-eq0 c = (c.none_at_fault.ensures.0 ∙ fault_empty _ _ c.if-
 pub returns-in_default : goal.returns-in_default
 returns-in_default c = (
   c.none_at_fault-in_default.ensures.0
-      ∙ fault_lost _ _ c.if-header-eq0.false _ c.wide.ensures.0 (none_at _ _ _ c.record_at.ensures (no_record_by _ c.in_default.not-Record)),
+      ∙ fault_lost _ _ c.if-header-eq0.false _ c.wide.ensures.0 (none_at _ _ _ c.record_at.ensures (not_record _ c.in_default.not-Record)),
   c.none_at_fault-in_default.ensures.1,
 )
 

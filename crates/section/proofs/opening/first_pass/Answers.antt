@@ -1,9 +1,9 @@
 use Rattle.std.proofs.Common.{arith, refl, sym, ◌∙◌}
 use lib.ListN.{replicate}
 use Rattle.numbers.proofs.LittleLaws.{slice_bytes}
-use Rattle.records.proofs.ReadingLaws.{Here, here, stops_here, ends_here}
+use Rattle.records.proofs.ReadingLaws.{here, stops_here, ends_here}
 use Rattle.records.proofs.ScanLaws.{answer_too_long}
-use Rattle.section.proofs.OpeningLaws.{Opening, opening_start, opening_few, opening_seated, opening_stray, opening_stop, opening_end}
+use Rattle.section.proofs.OpeningLaws.{opening_start, opening_few, opening_seated, opening_stray, opening_stop, opening_end}
 use Rattle.section.proofs.opening.first_pass.Goals as goal
 use Rattle.section.proofs.opening.first_pass.Goals.{then-strays, else-strays}
 

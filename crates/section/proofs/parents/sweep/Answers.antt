@@ -2,9 +2,8 @@ use Rattle.std.proofs.Common.{arith, refl, sym, ap, ◌∙◌}
 use lib.ListN.{replicate}
 use Rattle.numbers.proofs.LittleLaws.{slice_bytes}
 use Rattle.records.specs.Reading.{offset}
-use Rattle.records.proofs.ReadingLaws.{Here, here, none_here}
-use Rattle.section.proofs.AheadLaws.{no_record_by}
-use Rattle.section.proofs.StrayLaws.{Placing, placing_start, placing_stray, placing_next, placing_far, placing_end}
+use Rattle.records.proofs.ReadingLaws.{here, none_here, not_record}
+use Rattle.section.proofs.StrayLaws.{placing_start, placing_stray, placing_next, placing_far, placing_end}
 use Rattle.section.proofs.parents.sweep.Goals as goal
 use Rattle.section.proofs.parents.sweep.Goals.{then-inside+else-strays, else-inside}
 
@@ -14,7 +13,7 @@ loop-r-init c = placing_start _ _ (replicate 200 16) refl refl
 pub returns-in_default : goal.returns-in_default
 returns-in_default c =
     ap offset
-    (placing_end c.loop-r.invariant (none_here c.args.s.now c.loop-r.at.0 c.loop-r.cap _ c.record_at.ensures (no_record_by _ c.in_default.not-Record)))
+    (placing_end c.loop-r.invariant (none_here c.args.s.now c.loop-r.at.0 c.loop-r.cap _ c.record_at.ensures (not_record _ c.in_default.not-Record)))
 
 pub overflow_add-cap : goal.overflow_add-cap
 overflow_add-cap c =

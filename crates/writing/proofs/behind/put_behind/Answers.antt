@@ -1,12 +1,13 @@
 use Rattle.std.proofs.Common.{arith, sym}
 use Rattle.numbers.proofs.LittleLaws.{slice_bytes}
 use Rattle.paragraph.proofs.StreamLaws.{Read, read_at, none_at}
-use Rattle.writing.proofs.BehindLaws.{no_record_of, behind_stop, behind_over, behind_go}
+use Rattle.writing.proofs.BehindLaws.{behind_stop, behind_over, behind_go}
+use Rattle.records.proofs.ReadingLaws.{not_record}
 use Rattle.writing.proofs.behind.put_behind.Goals as goal
 
 pub returns-in_default : goal.returns-in_default
 returns-in_default c =
-    behind_stop c.loop-r.invariant (none_at c.args.s.now c.loop-r.place.0 _ c.record_at.ensures (no_record_of _ c.in_default.not-Record)) c.put_rest.ensures
+    behind_stop c.loop-r.invariant (none_at c.args.s.now c.loop-r.place.0 _ c.record_at.ensures (not_record _ c.in_default.not-Record)) c.put_rest.ensures
 
 pub returns-then-r-n : goal.returns-then-r-n
 returns-then-r-n c =

@@ -2,14 +2,14 @@ use Rattle.std.proofs.Common.{arith, refl, sym}
 use Rattle.numbers.proofs.LittleLaws.{slice_bytes}
 use Rattle.paragraph.proofs.StreamLaws.{Read, read_at, none_at}
 use Rattle.changing.specs.Child.{field_at}
-use Rattle.writing.proofs.BehindLaws.{no_record_of}
 use Rattle.writing.proofs.SheetLaws.{sheet_none, sheet-short, sheet-long, body_long}
+use Rattle.records.proofs.ReadingLaws.{not_record}
 use Rattle.writing.proofs.sheet.put_sheet.Goals as goal
 
 pub returns-in_default : goal.returns-in_default
 returns-in_default c =
     sheet_none (field_at c.args.spot) c.args.value.now c.args.s.now c.args.header.0 c.put_part-p.ensures
-    (none_at c.args.s.now c.args.header.0 _ c.record_at.ensures (no_record_of _ c.in_default.not-Record)) c.put_rest.ensures
+    (none_at c.args.s.now c.args.header.0 _ c.record_at.ensures (not_record _ c.in_default.not-Record)) c.put_rest.ensures
 
 pub returns-then-r-lt22 : goal.returns-then-r-lt22
 returns-then-r-lt22 c =
