@@ -1,5 +1,5 @@
 -- DocInfo at its edges, as one table that antt computes: records, and the number and place that they get (0 for accepted).
-use Rattle.std.specs.Prelude.{ℕ, ◌+◌, List, [], ◌∷◌, ◌++◌, Bool, true, ◌&&◌, T, eqb, replicate}
+use Rattle.std.specs.Prelude.{ℕ, List, [], ◌∷◌, ◌++◌, Bool, true, ◌&&◌, T, eqb, replicate}
 use Rattle.numbers.specs.Little.{little, span, bytes_of}
 use Rattle.records.specs.Records.{Rec, lead_of, size}
 use Rattle.records.specs.Parents.{keep_if, children}

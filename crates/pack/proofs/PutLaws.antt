@@ -61,6 +61,10 @@ module _ (out : List ℕ) (tag level n : ℕ) where
       → first ≡ laid (header_of tag level n) out
   put-short first w h e f = f ∙ rw (header-short tag level n h, e, four_low)
 
+  -- the same, as the search applies it
+  pub short_laid : n < 4095 → laid (bytes_of 4 (header_word tag level n % 4294967296)) out ≡ laid (header_of tag level n) out
+  short_laid h = put-short (laid (bytes_of 4 (header_word tag level n % 4294967296)) out) (header_word tag level n % 4294967296) h refl refl
+
   pub put-long : (first part : List ℕ) (w : ℕ) → 4095 ≤ n → 8 ≤ length out → w ≡ header_word tag level 4095 % 4294967296 → first ≡ laid (bytes_of 4 w) out
       → part ≡ laid (bytes_of 4 (n % 4294967296)) (take (length first - 4) (drop 4 first))
       → take 4 first ++ (part ++ drop (length first - 4) (drop 4 first)) ≡ laid (header_of tag level n) out

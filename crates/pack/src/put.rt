@@ -24,6 +24,7 @@ fn word(tag: u32, level: u32, size: u32) -> u32
 }
 
 // Writes the header of a body of this length at the front of out; where there is no room nothing is written.
+#[tactic(auto, using(crate::proofs::PutLaws::short_laid))]
 pub fn put_header(out: &mut [u8], tag: u32, level: u32, len: usize)
     ensures { out.new ≡ laid (header_of tag level len) out.old }
 {

@@ -1,5 +1,5 @@
 -- The search: what it still meets, from a record on and from a position of a paragraph's text on. Assumes nothing.
-use Prim.Native.Nat.{ℕ, suc, ◌+◌, ◌-◌, ◌≤◌, ◌<◌}
+use Prim.Native.Nat.{ℕ, suc, ◌+◌, ◌≤◌, ◌<◌}
 use native.Mathlib.Omega.{arith}
 use native.Mathlib.Numerals.{add-one}
 use native.Mathlib.Nat.{zero-add, add-zero}
@@ -17,7 +17,6 @@ use Rattle.records.specs.Reading.{offset}
 use Rattle.records.specs.declared.fault.Offset.{Offset}
 use Rattle.records.specs.declared.header.Record.{Record}
 use Rattle.text.specs.Units.{units}
-use Rattle.text.specs.Asked.{what}
 use Rattle.text.specs.Walk.{Token, tokens, tokens_at, is_extended, extended_in, extended_count, fault, fault_at, text_fault, run}
 use Rattle.text.specs.Answers.{position}
 use Rattle.text.specs.declared.Class.{Class}
@@ -36,7 +35,6 @@ use Rattle.paragraph.specs.Places.{found_in, place_found, body_of, body_found, o
 use Rattle.paragraph.specs.Rules.{bytes_in, owner_of}
 use Rattle.paragraph.specs.declared.children.Found.{Found}
 use Rattle.paragraph.specs.declared.children.Found.TheVariants as P
-use Rattle.paragraph.specs.declared.fields.Owner.{Owner}
 use Rattle.paragraph.specs.declared.fields.Owner.TheVariants as O
 use Rattle.paragraph.specs.declared.fields.Owned.{Owned}
 use Rattle.paragraph.specs.declared.fields.Owned.TheVariants as K

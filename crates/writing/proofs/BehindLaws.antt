@@ -5,16 +5,12 @@ use native.Mathlib.Numerals.{add-one}
 use mathlib.Core.Path.{◌≡◌, refl, sym, ap, ap₂, ◌∙◌}
 use mathlib.Core.Bool.{Bool, true, false, cond}
 use mathlib.Core.List.{List, [], ◌∷◌, ◌++◌}
-use mathlib.Core.Logic.{inl, inr}
 use lib.Dec.{eqb}
 use borrow.Author.Tests.{lt-ltb, le-ltb, eq-eqb, ne_eqb}
 use lib.ListN.{length, drop, length-take, length-drop}
 use Rattle.records.specs.Kinds as kind
 use Rattle.records.specs.Records.{Rec, encode_one, size}
 use Rattle.records.specs.declared.header.Record.{Record}
-use Rattle.records.specs.declared.header.Ahead.{Ahead}
-use Rattle.records.specs.declared.header.Ahead.TheVariants as N
-use Rattle.records.proofs.ReadingLaws.{NoRecord}
 use Rattle.paragraph.specs.View.{side}
 use Rattle.paragraph.specs.Stream.{records_in}
 use Rattle.paragraph.specs.Places.{body_of}

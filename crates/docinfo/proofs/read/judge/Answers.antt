@@ -1,6 +1,6 @@
 use Rattle.std.proofs.Common.{sym, ◌∙◌}
 use Rattle.numbers.proofs.LittleLaws.{slice_bytes}
-use Rattle.docinfo.proofs.OnlyLaws.{Alone, alone}
+use Rattle.docinfo.proofs.OnlyLaws.{alone}
 use Rattle.docinfo.proofs.AnswerLaws.{judge_16, judge_17, judge_both}
 use Rattle.docinfo.proofs.read.judge.Goals as goal
 

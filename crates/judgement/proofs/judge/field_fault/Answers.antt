@@ -1,14 +1,8 @@
-use Rattle.std.proofs.Common.{◌≡◌, refl, sym, ap, ◌∙◌, arith}
-use mathlib.Core.Logic.{inl, inr}
+use Rattle.std.proofs.Common.{sym, ap, ◌∙◌, arith}
 use Rattle.numbers.proofs.LittleLaws.{slice_bytes}
 use Rattle.text.specs.Units.{units}
-use Rattle.text.specs.declared.Position.{Position}
-use Rattle.text.specs.declared.Standing.{Standing}
-use Rattle.text.specs.declared.Cursor.{Cursor}
-use Rattle.text.specs.declared.Step.{Step}
-use Rattle.text.specs.declared.Step.TheVariants.{Stands, Broken, End}
 use Rattle.text.proofs.UnitLaws.{length-units}
-use Rattle.text.proofs.ControlLaws.{NoControl, control_stands, none_stands, not_control}
+use Rattle.text.proofs.ControlLaws.{control_stands, none_stands, not_control}
 use Rattle.paragraph.specs.Rules.{field_short}
 use Rattle.paragraph.specs.declared.fields.Owned.TheVariants as K
 use Rattle.paragraph.proofs.FieldLaws.{outcome, walking_start, walking_to, walking_nobody, walking_other, walking_header, walking_short, walking_lacking, walking_end}

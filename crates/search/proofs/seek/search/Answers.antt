@@ -1,5 +1,5 @@
 -- The search meets what `hits` has. Assumes nothing.
-use Rattle.std.proofs.Common.{arith, refl, sym, ◌∙◌}
+use Rattle.std.proofs.Common.{arith, refl, sym}
 use Rattle.numbers.proofs.LittleLaws.{slice_bytes}
 use Rattle.text.proofs.ControlLaws.{control_stands, none_stands, not_control}
 use Rattle.search.proofs.SearchLaws.{look_none, look_past, look_in, walking_to, walking_on, walking_twice, walking_end, walking_few, walking_sound}
