@@ -1,4 +1,4 @@
-//! The lister in this process: its own main, which `tools/native` has made read and write through the functions here.
+//! The lister in this process: its own main, which `tools/native` has made read, write and seek through the functions here.
 
 use std::cell::RefCell;
 
@@ -50,6 +50,12 @@ extern "C" fn lister_write(descriptor: i32, from: *const u8, length: usize) -> i
     })
 }
 
+/// Its ends are pipes, in which no place can be sought.
+#[no_mangle]
+extern "C" fn lister_lseek(_descriptor: i32, _by: i64, _from: i32) -> i64 {
+    -1
+}
+
 /// What the lister prints of an input; a line more where it does not end well.
 pub fn list(input: &[u8], most: usize) -> Vec<u8> {
     ENDS.set(Ends {
@@ -57,7 +63,7 @@ pub fn list(input: &[u8], most: usize) -> Vec<u8> {
         most,
         ..Ends::default()
     });
-    // SAFETY: it takes nothing and calls the two functions above alone.
+    // SAFETY: it takes nothing and calls the three functions above alone.
     let status = unsafe { lister_main() };
     let mut output = ENDS.take().output;
     if status != 0 {
