@@ -1,4 +1,4 @@
-# The product's commands, the same on x86-64 and on Arm.
+# The product's commands.
 .PHONY: demo test library spool samples map
 
 # The main job on the bundled water sheet.
@@ -9,7 +9,7 @@ demo:
 test:
 	@tools/gate
 
-# target/staticlib/libhost.a, the library to link on x86-64.
+# target/staticlib/libhost.a, the library to link.
 library:
 	@tools/library
 
