@@ -5,7 +5,7 @@
 demo:
 	@tools/demo
 
-# Everything that is proved and tested, from nothing.
+# Everything that is proved and tested; what the kit proved of the same files before on this machine it keeps.
 test:
 	@tools/gate
 
