@@ -1,28 +1,25 @@
 -- Check never gives 7 (document 01: 'the same numbers but 7'), nor a number above 15. Assumes nothing.
+use Rattle.std.specs.Prelude.{Err, None, Ok, Option, Some}
+use Rattle.paragraph.specs.Rules.{Finding, breach}
 use Prim.Native.Nat.{ℕ, zero, suc, ◌+◌, ◌-◌, ◌≤◌}
 use native.Mathlib.Omega.{arith}
 use mathlib.Core.Path.{◌≡◌, refl}
 use mathlib.Core.Bool.{Bool, true, false, cond, ◌&&◌}
-use mathlib.Core.Option.{Option, none, some}
 use mathlib.Core.List.{List, [], ◌∷◌}
 use lib.Dec.{ltb, leb}
 use lib.ListN.{length}
 use borrow.Author.Tests.{le-leb, leb-true}
 use Rattle.records.specs.Records.{Rec, limit, size, encode}
-use Rattle.records.specs.Answers.{number_of, number, refused_at}
+use Rattle.records.specs.Answers.{number_of, number, refused_at, Answer}
 use Rattle.records.specs.Reading.{Stands, whole, fault, stands_at, onto, read_from, read_all}
 use Rattle.records.specs.Table.{room_for, stopped, answer_of, read_answer, settled, after_read}
 use Rattle.records.specs.declared.fault.Fault.{Fault}
 use Rattle.records.specs.declared.fault.Fault.TheVariants as F
 use Rattle.records.specs.declared.fault.Refusal.{Refusal}
-use Rattle.records.specs.declared.fault.Answer.{Answer}
-use Rattle.records.specs.declared.fault.Answer.TheVariants as A
 use Rattle.records.specs.Stopping.{AtFront, cut, long_cut, small, past, long_past, reserved, deep}
 use Rattle.records.proofs.ReadingLaws.{at_front}
 use Rattle.paragraph.specs.View.{view}
 use Rattle.paragraph.specs.declared.finding.Which.{Which}
-use Rattle.paragraph.specs.declared.finding.Finding.{Finding}
-use Rattle.paragraph.specs.declared.finding.Finding.TheVariants as G
 use Rattle.paragraph.proofs.NearLaws.{Names, short, absent, length_wrong, unit, entry, unmatched, header-short, NamesIf}
 use Rattle.section.specs.Parents.{header, stray_from}
 use Rattle.section.specs.Section.{refusal_or, finding_of, paragraphs_fault, stray_or, section_fault, section_answer, check_answer}
@@ -42,8 +39,8 @@ early cap s f (reserved h) = omega arith
 early cap s f (deep h) = omega arith
 
 abbrev EarlyStop : Option Refusal → Type 0
-EarlyStop none = Unit {0}
-EarlyStop (some f) = number_of f.fault ≤ 6
+EarlyStop None = Unit {0}
+EarlyStop (Some f) = number_of f.fault ≤ 6
 
 early_stop : (cap k : ℕ) (s : List ℕ) → EarlyStop (read_from cap k s).stop
 unfolding read_from onto
@@ -70,15 +67,15 @@ late own f w unmatched = refl
 late own f w (header-short nth) = refl
 
 abbrev LateRefusal : Option Refusal → Type 0
-LateRefusal none = Unit {0}
-LateRefusal (some r) = LateFault r.fault
+LateRefusal None = Unit {0}
+LateRefusal (Some r) = LateFault r.fault
 
 late_bounds : (f : Fault) → LateFault f → (8 ≤ number_of f) × (number_of f ≤ 15)
 late_bounds f h = let k = both_true _ _ h in (leb-true 8 (number_of f) k.0, leb-true (number_of f) 15 k.1)
 
 late_or : (at : ℕ) (rs own : List Rec) (x : Finding) (rest : Option Refusal) → NamesIf own x → LateRefusal rest → LateRefusal (refusal_or at rs x rest)
-late_or at rs own G.Lawful rest h k = k
-late_or at rs own (G.Breach f w) rest h k = late own f w h
+late_or at rs own (Ok tt) rest h k = k
+late_or at rs own (Err b) rest h k = late own b.fault b.which h
 
 late_paragraphs : (at : ℕ) (rs : List Rec) → LateRefusal (paragraphs_fault at rs)
 unfolding paragraphs_fault
@@ -88,8 +85,8 @@ late_paragraphs at (r ∷ rs) =
     (late_paragraphs (at + size r) rs)
 
 late_stray : (o : Option ℕ) (rest : Option Refusal) → LateRefusal rest → LateRefusal (stray_or o rest)
-late_stray none rest k = k
-late_stray (some p) rest k = refl
+late_stray None rest k = k
+late_stray (Some p) rest k = refl
 
 late_section : (rs : List Rec) → LateRefusal (section_fault rs)
 unfolding section_fault
@@ -101,16 +98,16 @@ abbrev Ours : Answer → Type 0
 Ours a = (number a ≡ 7 → ⊥) × (number a ≤ 15)
 
 settled_ours : (n : ℕ) (o : Option Refusal) → LateRefusal o → Ours (settled n o)
-settled_ours n none h = ((λ e. omega arith), omega arith)
-settled_ours n (some r) h = let k = late_bounds r.fault h in ((λ e. omega (arith, k.0)), k.1)
+settled_ours n None h = ((λ e. omega arith), omega arith)
+settled_ours n (Some r) h = let k = late_bounds r.fault h in ((λ e. omega (arith, k.0)), k.1)
 
 abbrev EarlyAnswer : Answer → Type 0
-EarlyAnswer (A.Accepted n) = Unit {0}
-EarlyAnswer (A.Refused r) = number_of r.fault ≤ 6
+EarlyAnswer (Ok n) = Unit {0}
+EarlyAnswer (Err r) = number_of r.fault ≤ 6
 
 ruled_ours : (rs : List Rec) (a : Answer) → EarlyAnswer a → Ours (after_read a (section_fault rs))
-ruled_ours rs (A.Accepted n) h = settled_ours n (section_fault rs) (late_section rs)
-ruled_ours rs (A.Refused r) h = ((λ e. omega arith), omega (arith, h))
+ruled_ours rs (Ok n) h = settled_ours n (section_fault rs) (late_section rs)
+ruled_ours rs (Err r) h = ((λ e. omega arith), omega (arith, h))
 
 early_room : (s : List ℕ) → EarlyAnswer (room_for (length s) (read_all s).recs)
 unfolding room_for
@@ -118,8 +115,8 @@ early_room s = rw (le-leb (length (read_all s).recs) (length s) (room_enough s))
 
 early_answer : (s : List ℕ) → (o : Option Refusal) → EarlyStop o → EarlyAnswer (stopped o (length (encode (read_all s).recs)) (room_for (length s) (read_all s).recs))
 unfolding stopped
-early_answer s none h = early_room s
-early_answer s (some f) h = h
+early_answer s None h = early_room s
+early_answer s (Some f) h = h
 
 early_limit : (b : Bool) (a : Answer) → EarlyAnswer a → EarlyAnswer (cond b (refused_at F.StreamTooLong 0) a)
 early_limit true a h = omega arith

@@ -1,10 +1,10 @@
 -- The reader's statement for one paragraph: no rule is broken exactly when document 01's sentences hold. Assumes nothing.
+use Rattle.std.specs.Prelude.{None, Ok, Option, Some}
 use Prim.Native.Nat.{ℕ, ◌*◌, ◌≤◌, ◌<◌}
 use native.Mathlib.Omega.{arith}
 use mathlib.Core.Path.{◌≡◌, refl, sym, ap}
 use mathlib.Core.Logic.{◌↔◌}
 use mathlib.Core.Bool.{false, not}
-use mathlib.Core.Option.{Option, none, some}
 use mathlib.Core.List.{List}
 use lib.Dec.{ltb, eqb}
 use lib.ListN.{length}
@@ -18,19 +18,18 @@ use Rattle.paragraph.specs.View.{View, child, controls}
 use Rattle.entries.specs.Entries.{shapes_fault, marks_fault}
 use Rattle.paragraph.specs.Rules.{counts_of, length_of, lengths_of, lacks, absent, unwanted, misfits, length_fault, unit_broken, bytes_in, entry_fault, codes_in, field_fault, control_fault, body_fault, parts_fault, head_fault, paragraph_fault}
 use Rattle.paragraph.specs.declared.finding.Counts.{Counts}
-use Rattle.paragraph.specs.declared.finding.Finding.TheVariants as G
 use Rattle.acceptance.specs.Keeps.{Keeps}
 use Rattle.acceptance.proofs.ChainLaws.{both_false, neither, some_none, guard_says, guard_passes, at_says, at_passes, else_says, else_passes, lacks_says, lacks_not, unwanted_says, unwanted_not, misfits_says, misfits_not, shapes_say, shapes_not, marks_say, marks_not, fields_say, fields_not}
 
 -- ---- the text
 
-text_says : (o : Option (List ℕ)) → unit_broken o ≡ none → (b : List ℕ) → o ≡ some b → SoundText (units b)
-text_says none e b q = absurd (some_none (sym q))
-text_says (some c) e b q = let same : c ≡ b = cc in rw (← same) ((sound_exactly (units c)).0 e)
+text_says : (o : Option (List ℕ)) → unit_broken o ≡ None → (b : List ℕ) → o ≡ Some b → SoundText (units b)
+text_says None e b q = absurd (some_none (sym q))
+text_says (Some c) e b q = let same : c ≡ b = cc in rw (← same) ((sound_exactly (units c)).0 e)
 
-text_not : (o : Option (List ℕ)) → ((b : List ℕ) → o ≡ some b → SoundText (units b)) → unit_broken o ≡ none
-text_not none h = refl
-text_not (some b) h = (sound_exactly (units b)).1 (h b refl)
+text_not : (o : Option (List ℕ)) → ((b : List ℕ) → o ≡ Some b → SoundText (units b)) → unit_broken o ≡ None
+text_not None h = refl
+text_not (Some b) h = (sound_exactly (units b)).1 (h b refl)
 
 -- ---- the parts of the chain
 
@@ -73,7 +72,7 @@ module _ (c : Counts) (own : List Rec) where
     pub layout-fits : unwanted c.lines (length_of layout) ≡ false
     pub marks_fit : misfits c.marks (12 * c.marks) (length_of marks) ≡ false
 
-  fitting_says : length_fault c (lengths_of own) ≡ G.Lawful → Fitting
+  fitting_says : length_fault c (lengths_of own) ≡ Ok tt → Fitting
   unfolding length_fault lengths_of
   fitting_says e =
       let a = guard_says (misfits c.count (2 * c.count) (length_of text)) _ _ _ e in
@@ -82,19 +81,19 @@ module _ (c : Counts) (own : List Rec) where
       let f = guard_says (misfits c.marks (12 * c.marks) (length_of marks)) _ _ _ d.1 in
       record { text-fits = a.0; shapes_fit = b.0; layout-fits = d.0; marks_fit = f.0 }
 
-  fitting_not : Fitting → length_fault c (lengths_of own) ≡ G.Lawful
+  fitting_not : Fitting → length_fault c (lengths_of own) ≡ Ok tt
   unfolding length_fault lengths_of
   fitting_not k = guard_passes _ k.text-fits (guard_passes _ k.shapes_fit (guard_passes _ k.layout-fits (guard_passes _ k.marks_fit refl)))
 
   -- 12 to 15
   pub record Sounding : Type 0 where
-    pub text_whole : unit_broken text ≡ none
-    pub shapes_none : shapes_fault c.count (bytes_in shapes) ≡ none
-    pub marks_none : marks_fault c.count (bytes_in marks) ≡ none
+    pub text_whole : unit_broken text ≡ None
+    pub shapes_none : shapes_fault c.count (bytes_in shapes) ≡ None
+    pub marks_none : marks_fault c.count (bytes_in marks) ≡ None
     pub equal : extended_count (units (bytes_in text)) ≡ length (controls own)
-    pub fields : field_fault 0 (codes_in (tokens (units (bytes_in text)))) (controls own) ≡ G.Lawful
+    pub fields : field_fault 0 (codes_in (tokens (units (bytes_in text)))) (controls own) ≡ Ok tt
 
-  sounding_says : body_fault c.count text (bytes_in shapes) (bytes_in marks) (controls own) ≡ G.Lawful → Sounding
+  sounding_says : body_fault c.count text (bytes_in shapes) (bytes_in marks) (controls own) ≡ Ok tt → Sounding
   unfolding body_fault entry_fault control_fault
   sounding_says e =
       let a = at_says (unit_broken text) _ _ _ e in
@@ -110,7 +109,7 @@ module _ (c : Counts) (own : List Rec) where
         fields = g.1;
       }
 
-  sounding_not : Sounding → body_fault c.count text (bytes_in shapes) (bytes_in marks) (controls own) ≡ G.Lawful
+  sounding_not : Sounding → body_fault c.count text (bytes_in shapes) (bytes_in marks) (controls own) ≡ Ok tt
   unfolding body_fault entry_fault control_fault
   sounding_not k =
       at_passes _ _ k.text_whole
@@ -125,7 +124,7 @@ pub record Chain (v : View) : Type 0 where
   pub fitting : Fitting (counts_of v.head) v.own
   pub sounding : Sounding (counts_of v.head) v.own
 
-chain_says : (v : View) → paragraph_fault v ≡ G.Lawful → Chain v
+chain_says : (v : View) → paragraph_fault v ≡ Ok tt → Chain v
 unfolding paragraph_fault head_fault parts_fault
 chain_says v e =
     let c = counts_of v.head in
@@ -139,7 +138,7 @@ chain_says v e =
       sounding = sounding_says c v.own d.1;
     }
 
-chain_not : (v : View) → Chain v → paragraph_fault v ≡ G.Lawful
+chain_not : (v : View) → Chain v → paragraph_fault v ≡ Ok tt
 unfolding paragraph_fault head_fault parts_fault
 chain_not v k =
     let c = counts_of v.head in
@@ -203,5 +202,5 @@ keeps_not v k =
     }
 
 -- no rule of a paragraph is broken exactly when it keeps document 01's sentences
-pub keeps_exactly : (v : View) → (paragraph_fault v ≡ G.Lawful) ↔ Keeps v
+pub keeps_exactly : (v : View) → (paragraph_fault v ≡ Ok tt) ↔ Keeps v
 keeps_exactly v = (λ e. keeps_says v (chain_says v e), λ k. chain_not v (keeps_not v k))

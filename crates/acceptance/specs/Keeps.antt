@@ -1,6 +1,5 @@
 -- What document 01 asks of one paragraph, a line for each of its sentences ('Paragraphs'), by no order of refusals.
-use Rattle.std.specs.Prelude.{ℕ, ◌+◌, ◌*◌, ◌/◌, ◌≤◌, ◌<◌, max, ◌≡◌, List, [], ◌∷◌, map, length, drop}
-use Rattle.std.proofs.Math.Option.{none, some}
+use Rattle.std.specs.Prelude.{ℕ, ◌+◌, ◌*◌, ◌/◌, ◌≤◌, ◌<◌, max, ◌≡◌, List, [], ◌∷◌, map, length, drop, None, Some}
 use Rattle.numbers.specs.Little.{little}
 use Rattle.records.specs.Kinds as kind
 use Rattle.text.specs.Units.{units}
@@ -75,22 +74,22 @@ pub record Keeps (v : View) : Type 0 where
   -- the body of the header has 22 bytes or more
   pub header-long : 22 ≤ length v.head
   -- text: 2 x count bytes; with count 0 absent, with count 1 it may be absent
-  pub text-absent : child kind.text v.own ≡ none → (counts_of v.head).count < 2
-  pub text_sized : (b : List ℕ) → child kind.text v.own ≡ some b → Sized 2 (counts_of v.head).count b
-  pub text_sound : (b : List ℕ) → child kind.text v.own ≡ some b → SoundText (units b)
+  pub text-absent : child kind.text v.own ≡ None → (counts_of v.head).count < 2
+  pub text_sized : (b : List ℕ) → child kind.text v.own ≡ Some b → Sized 2 (counts_of v.head).count b
+  pub text_sound : (b : List ℕ) → child kind.text v.own ≡ Some b → SoundText (units b)
   -- character shapes: always present and at least one, 8 bytes each; the first start is 0, starts strictly rise, each is below the
   -- count (below 1 when the count is 0)
-  pub shapes_there : child kind.shapes v.own ≡ none → ⊥
-  pub shapes_sized : (b : List ℕ) → child kind.shapes v.own ≡ some b → Sized 8 (counts_of v.head).shapes b
+  pub shapes_there : child kind.shapes v.own ≡ None → ⊥
+  pub shapes_sized : (b : List ℕ) → child kind.shapes v.own ≡ Some b → Sized 8 (counts_of v.head).shapes b
   pub shapes_first : First 0 (starts_of (bytes_in (child kind.shapes v.own)))
   pub shapes_rise : Rise (starts_of (bytes_in (child kind.shapes v.own)))
   pub shapes-below : Below (max 1 (counts_of v.head).count) (starts_of (bytes_in (child kind.shapes v.own)))
   -- line layout: present exactly if lines is above 0; its body is not examined
-  pub layout-absent : child kind.layout v.own ≡ none → (counts_of v.head).lines ≡ 0
-  pub layout_there : (b : List ℕ) → child kind.layout v.own ≡ some b → 0 < (counts_of v.head).lines
+  pub layout-absent : child kind.layout v.own ≡ None → (counts_of v.head).lines ≡ 0
+  pub layout_there : (b : List ℕ) → child kind.layout v.own ≡ Some b → 0 < (counts_of v.head).lines
   -- marks: present exactly if marks is above 0, 12 bytes each; start at most end, end at most count
-  pub marks-absent : child kind.marks v.own ≡ none → (counts_of v.head).marks ≡ 0
-  pub marks_sized : (b : List ℕ) → child kind.marks v.own ≡ some b → Sized 12 (counts_of v.head).marks b
+  pub marks-absent : child kind.marks v.own ≡ None → (counts_of v.head).marks ≡ 0
+  pub marks_sized : (b : List ℕ) → child kind.marks v.own ≡ Some b → Sized 12 (counts_of v.head).marks b
   pub marks-within : MarksWithin (counts_of v.head).count (marks_of (bytes_in (child kind.marks v.own)))
   -- the numbers of extended controls and of control headers are equal; under code 3 the header is long enough
   pub controls_equal : extended_count (units (bytes_in (child kind.text v.own))) ≡ length (controls v.own)

@@ -2,9 +2,9 @@
 use Prim.Native.Nat.{ℕ, ◌+◌, ◌-◌, ◌*◌, ◌/◌, ◌≤◌, min}
 use native.Mathlib.Omega.{arith}
 use mathlib.Core.Path.{◌≡◌, sym, ap, ap₂, ◌∙◌}
-use mathlib.Core.List.{List, [], ◌++◌}
+use mathlib.Core.List.{List, ◌++◌}
 use mathlib.Core.Logic.{inl, inr}
-use Rattle.text.proofs.Cases.{lt_or}
+use Rattle.text.proofs.Cases.{lt_or, eq_or}
 use borrow.Author.Tests.{eq-eqb, ne_eqb}
 use lib.ListN.{length, take, drop, length-append, length-take, length-drop, drop_of_length-le}
 use lib.Seq.{take_all, take-length, drop-length}
@@ -14,7 +14,6 @@ use Rattle.records.specs.Kinds as kind
 use Rattle.records.specs.Records.{header_of, encode_one}
 use Rattle.records.specs.Reading.{offset}
 use Rattle.records.specs.declared.fault.Offset.{Offset}
-use Rattle.records.specs.declared.header.Record.{Record}
 use Rattle.text.specs.declared.Position.{Position}
 use Rattle.paragraph.specs.Places.{unit_place}
 use Rattle.filling.specs.Replacing.{replaced}
@@ -23,16 +22,19 @@ use Rattle.filling.specs.Editing.{with_body}
 use Rattle.filling.specs.Filling.{altered, with_bit15, new_body}
 use Rattle.filling.proofs.PackingLaws.{length-packed}
 use Rattle.filling.proofs.KeepLaws.{after_fewer, length-shapes}
-use Rattle.changing.specs.declared.child.Spot.{Spot}
+use Rattle.changing.specs.declared.fill.Spot.{Spot}
+use Rattle.changing.specs.declared.fill.Piece.{Piece}
 use Rattle.putting.specs.Putting.{largest, Puts}
-use Rattle.changing.specs.Child.{field_at, record_with, changed_bytes, child_bytes}
-use Rattle.putting.proofs.PuttingLaws.{puts_as, puts_then}
+use Rattle.putting.specs.Sheet.{Put}
+use Rattle.putting.specs.declared.put.Sheet.{Sheet}
+use Rattle.changing.specs.Child.{field_at, record_of, record_with, changed_bytes, child_bytes}
+use Rattle.putting.proofs.PuttingLaws.{put_as, put_then, put_none}
 
 -- a header, and a body behind it
-pub puts_record : (r : Record) {out mid after body : List ℕ} {at p q n : ℕ} → n ≡ length body → Puts out at (header_of r.tag r.level n) p mid
-    → Puts mid p body q after → Puts out at (encode_one (record_with r body)) q after
+pub put_record : (tag level : ℕ) {s t u : Sheet} {body : List ℕ} {n : ℕ} → n ≡ length body → Put s (header_of tag level n) t → Put t body u
+    → Put s (encode_one (record { tag = tag; level = level; body = body })) u
 unfolding encode_one
-puts_record r e h t = puts_then (puts_as (ap (header_of r.tag r.level) e) h) t
+put_record tag level e h t = put_then (put_as (ap (header_of tag level) e) h) t
 
 -- ---- parts that may reach past the end
 
@@ -93,35 +95,49 @@ module _ (body : List ℕ) {w m : ℕ} (e : w ≡ little 4 (take (length body) (
       = take_all 4 (bytes_of 4 m) (omega (arith, length-bytes_of 4 m)) ∙ ap (bytes_of 4) (f ∙ ap with_bit15 (e ∙ ap (little 4) x)) in
       ap (λ (l : List ℕ). take 4 body ++ (l ++ drop 8 body)) z
 
-pub altered-length : (body : List ℕ) {front rest : ℕ} → front ≡ min 4 (length body) → rest ≡ length body - 8 → front + 4 + rest ≡ length (altered body)
+pub altered-length : (body : List ℕ) {front rest : ℕ} → front ≡ min (length body) 4 → rest ≡ length body - 8 → front + 4 + rest ≡ length (altered body)
 unfolding altered replaced
 altered-length body e f = simp (length-append, length-take, length-drop, length-bytes_of) (omega arith)
 
 -- ---- by kind
 
-module _ (spot : Spot) (j : ℕ) (r : Record) (value body : List ℕ) where
-  pub child-text : r.tag ≡ kind.text → encode_one (record_with r (replaced (2 * spot.a.0) (2 * spot.b.0) value body)) ≡ child_bytes (field_at spot) value j (record_with r body)
+module _ (spot : Spot) (value : List ℕ) (j : ℕ) (p : Piece) where
+  child_control : p.tag ≡ kind.control_header → (j ≡ spot.ordinal → ⊥) → encode_one (record_of p) ≡ child_bytes (field_at spot) value j (record_of p)
   unfolding child_bytes new_body changed_bytes with_body
-  child-text e = rw (eq-eqb r.tag kind.text e)
+  child_control e q = rw (ne_eqb p.tag kind.text (λ q. omega arith), ne_eqb p.tag kind.shapes (λ q. omega arith), ne_eqb p.tag kind.layout (λ q. omega arith), eq-eqb p.tag kind.control_header e, ne_eqb j spot.ordinal q)
 
-  pub child-shapes : r.tag ≡ kind.shapes
-      → encode_one (record_with r (packed (shapes_after spot.a.0 spot.b.0 (length value / 2) (shapes_in body)))) ≡ child_bytes (field_at spot) value j (record_with r body)
+  child_other : (p.tag ≡ kind.text → ⊥) → (p.tag ≡ kind.shapes → ⊥) → (p.tag ≡ kind.layout → ⊥) → (p.tag ≡ kind.control_header → ⊥)
+      → encode_one (record_of p) ≡ child_bytes (field_at spot) value j (record_of p)
   unfolding child_bytes new_body changed_bytes with_body
-  child-shapes e = rw (ne_eqb r.tag kind.text (λ q. omega arith), eq-eqb r.tag kind.shapes e)
+  child_other k q u t = rw (ne_eqb p.tag kind.text k, ne_eqb p.tag kind.shapes q, ne_eqb p.tag kind.layout u, ne_eqb p.tag kind.control_header t)
 
-  pub child-layout : r.tag ≡ kind.layout → [] ≡ child_bytes (field_at spot) value j (record_with r body)
+module _ (spot : Spot) (value : List ℕ) (j : ℕ) (p : Piece) {s t : Sheet} where
+  pub child_text : p.tag ≡ kind.text → Put s (encode_one (record_with p (replaced (2 * spot.a.0) (2 * spot.b.0) value p.body.bytes.now))) t
+      → Put s (child_bytes (field_at spot) value j (record_of p)) t
+  unfolding child_bytes new_body changed_bytes with_body
+  child_text e k = rw (eq-eqb p.tag kind.text e) k
+
+  pub child_shapes : p.tag ≡ kind.shapes
+      → Put s (encode_one (record_with p (packed (shapes_after spot.a.0 spot.b.0 (length value / 2) (shapes_in p.body.bytes.now))))) t
+      → Put s (child_bytes (field_at spot) value j (record_of p)) t
+  unfolding child_bytes new_body changed_bytes with_body
+  child_shapes e k = rw (ne_eqb p.tag kind.text (λ q. omega arith), eq-eqb p.tag kind.shapes e) k
+
+  pub child_altered : p.tag ≡ kind.control_header → j ≡ spot.ordinal → Put s (encode_one (record_with p (altered p.body.bytes.now))) t
+      → Put s (child_bytes (field_at spot) value j (record_of p)) t
+  unfolding child_bytes new_body changed_bytes with_body
+  child_altered e q k = rw (ne_eqb p.tag kind.text (λ q. omega arith), ne_eqb p.tag kind.shapes (λ q. omega arith), ne_eqb p.tag kind.layout (λ q. omega arith), eq-eqb p.tag kind.control_header e, eq-eqb j spot.ordinal q) k
+
+  -- no other field's control header, and none of the kinds that change
+  pub child_same : (p.tag ≡ kind.text → ⊥) → (p.tag ≡ kind.shapes → ⊥) → (p.tag ≡ kind.layout → ⊥) → (p.tag ≡ kind.control_header → j ≡ spot.ordinal → ⊥)
+      → Put s (encode_one (record_of p)) t → Put s (child_bytes (field_at spot) value j (record_of p)) t
+  child_same a b c d k = elim (eq_or p.tag kind.control_header) [
+    | inl e ↦ put_as (child_control spot value j p e (d e)) k
+    | inr n ↦ put_as (child_other spot value j p a b c n) k
+  ]
+
+module _ (spot : Spot) (value : List ℕ) (j : ℕ) (p : Piece) (s : Sheet) where
+  pub child_layout : p.tag ≡ kind.layout → Put s (child_bytes (field_at spot) value j (record_of p)) s
   unfolding child_bytes new_body changed_bytes
-  child-layout e = rw (ne_eqb r.tag kind.text (λ q. omega arith), ne_eqb r.tag kind.shapes (λ q. omega arith), eq-eqb r.tag kind.layout e)
-
-  pub child-altered : r.tag ≡ kind.control_header → j ≡ spot.ordinal → encode_one (record_with r (altered body)) ≡ child_bytes (field_at spot) value j (record_with r body)
-  unfolding child_bytes new_body changed_bytes with_body
-  child-altered e q = rw (ne_eqb r.tag kind.text (λ q. omega arith), ne_eqb r.tag kind.shapes (λ q. omega arith), ne_eqb r.tag kind.layout (λ q. omega arith), eq-eqb r.tag kind.control_header e, eq-eqb j spot.ordinal q)
-
-  pub child-control : r.tag ≡ kind.control_header → (j ≡ spot.ordinal → ⊥) → encode_one (record_with r body) ≡ child_bytes (field_at spot) value j (record_with r body)
-  unfolding child_bytes new_body changed_bytes with_body
-  child-control e q = rw (ne_eqb r.tag kind.text (λ q. omega arith), ne_eqb r.tag kind.shapes (λ q. omega arith), ne_eqb r.tag kind.layout (λ q. omega arith), eq-eqb r.tag kind.control_header e, ne_eqb j spot.ordinal q)
-
-  pub child_other : (r.tag ≡ kind.text → ⊥) → (r.tag ≡ kind.shapes → ⊥) → (r.tag ≡ kind.layout → ⊥) → (r.tag ≡ kind.control_header → ⊥)
-      → encode_one (record_with r body) ≡ child_bytes (field_at spot) value j (record_with r body)
-  unfolding child_bytes new_body changed_bytes with_body
-  child_other p q u t = rw (ne_eqb r.tag kind.text p, ne_eqb r.tag kind.shapes q, ne_eqb r.tag kind.layout u, ne_eqb r.tag kind.control_header t)
+  child_layout e =
+      rw (ne_eqb p.tag kind.text (λ q. omega arith), ne_eqb p.tag kind.shapes (λ q. omega arith), eq-eqb p.tag kind.layout e) (put_none s)

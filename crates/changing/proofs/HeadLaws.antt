@@ -1,18 +1,34 @@
 -- The paragraph header after a fill, in the pieces that are put. Assumes nothing.
-use Prim.Native.Nat.{ℕ, ◌+◌, ◌-◌, ◌*◌, ◌/◌, ◌%◌, ◌≤◌}
+use Prim.Native.Nat.{ℕ, ◌+◌, ◌-◌, ◌*◌, ◌/◌, ◌%◌, ◌^◌, ◌≤◌, ◌<◌}
 use native.Mathlib.Omega.{arith}
 use mathlib.Core.Path.{◌≡◌, refl, sym, ap, ap₂, ◌∙◌}
 use mathlib.Core.List.{List, ◌++◌}
 use lib.ListN.{length, take, drop, length-append, length-take, length-drop}
 use lib.Seq.{take_all, take-add, take-take, drop_at, take-append-le, drop-append-le, length-take-le}
+use lib.Bits.{bit_and}
+use Rattle.std.specs.Int.Bits.{and_zero_r}
+use Rattle.std.proofs.lemmas.Nat.{and_block, and_mask}
 use Rattle.numbers.specs.Little.{little, bytes_of}
 use Rattle.numbers.proofs.LittleLaws.{length-bytes_of}
 use Rattle.filling.specs.Replacing.{replaced}
 use Rattle.filling.specs.Filling.{recounted, new_head}
 
-pub recount_is : (a b v w : ℕ) {u gone left : ℕ} → u ≡ v → gone ≡ b - a → left ≡ w % 2147483648 + u - gone → w / 2147483648 * 2147483648 + left ≡ recounted a b v w
+-- bit 31, and the bits below it
+top_is : (w : ℕ) → w < 4294967296 → bit_and w 2147483648 ≡ w / 2147483648 * 2147483648
+top_is w h =
+    let e : w ≡ w / 2147483648 * 2 ^ 31 + w % 2147483648 = omega arith in
+    let one : bit_and (w / 2147483648) 1 ≡ w / 2147483648 = and_mask (w / 2147483648) 1 ∙ omega arith in
+    ap (λ (n : ℕ). bit_and n 2147483648) e
+    ∙ and_block 31 (w / 2147483648) 1 (w % 2147483648) 0 (omega arith) (omega arith)
+    ∙ rw (one, and_zero_r (w % 2147483648)) (omega arith)
+
+pub low_is : (w : ℕ) → bit_and w 2147483647 ≡ w % 2147483648
+low_is w = and_mask w 31
+
+pub recount_is : (a b v w : ℕ) {u gone left : ℕ} → w < 4294967296 → u ≡ v → gone ≡ b - a → left ≡ bit_and w 2147483647 + u - gone
+    → bit_and w 2147483648 + left ≡ recounted a b v w
 unfolding recounted
-recount_is a b v w d e f = omega arith
+recount_is a b v w h d e f = omega (arith, top_is w h, low_is w)
 
 -- the elements from i on, of the first i + n
 middle : (i n : ℕ) (h : List ℕ) → i + n ≤ length h → drop i (take (i + n) h) ≡ take n (drop i h)

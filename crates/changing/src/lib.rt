@@ -2,7 +2,9 @@
 #![tactic(auto)]
 
 mod child;
+mod fill;
 mod head;
 
-pub use child::{Spot, put_child, put_same, shapes_length};
+pub use child::{put_child, put_same, shapes_length};
+pub use fill::{Fill, Piece, Spot, piece_of};
 pub use head::put_paragraph;

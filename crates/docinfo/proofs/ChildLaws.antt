@@ -1,7 +1,8 @@
 -- The laws of children, and of the records with a tag: each clause of a definition as an equation under its test. Assumes nothing.
 use Prim.Native.Nat.{ℕ, ◌+◌, ◌≤◌, ◌<◌}
 use native.Mathlib.Omega.{arith}
-use native.Mathlib.Nat.{zero-add}
+use native.Mathlib.Nat.{zero-add, add-zero}
+use mathlib.Core.Logic.{◌⊎◌, inl, inr}
 use mathlib.Core.Path.{◌≡◌, refl, sym, ap, ◌∙◌}
 use mathlib.Core.Bool.{Bool, true, false, ◌&&◌}
 use mathlib.Core.List.{List, [], ◌∷◌}
@@ -10,24 +11,16 @@ use borrow.Author.Tests.{lt-ltb, le-ltb, eq-eqb, ne_eqb}
 use Rattle.records.specs.Records.{Rec}
 use Rattle.records.specs.Parents.{keep_if, children}
 use Rattle.records.specs.declared.header.Record.{Record}
-use Rattle.records.proofs.ReadingLaws.{Here}
+use Rattle.records.specs.declared.walk.Records.{Records}
+use Rattle.records.proofs.StepLaws.{Stepped}
 use Rattle.docinfo.specs.Counts.{once, tally}
 use Rattle.docinfo.proofs.WalkLaws.{rest, walk-next}
 
--- ---- one more or not
-
-module _ (level n tag wanted : ℕ) where
-  pub once_both : level ≡ n → tag ≡ wanted → (1 ≡ once (eqb level n && eqb tag wanted)) × (1 ≤ 1)
-  unfolding once
-  once_both e f = (simp (eq-eqb level n e, eq-eqb tag wanted f), omega arith)
-
-  pub once_level : level ≡ n → (tag ≡ wanted → ⊥) → (0 ≡ once (eqb level n && eqb tag wanted)) × (0 ≤ 1)
-  unfolding once
-  once_level e f = (simp (eq-eqb level n e, ne_eqb tag wanted f), omega arith)
-
-  pub once_neither : (level ≡ n → ⊥) → (0 ≡ once (eqb level n && eqb tag wanted)) × (0 ≤ 1)
-  unfolding once
-  once_neither e = (simp (ne_eqb level n e), omega arith)
+-- one more or not
+once_small : (b : Bool) → once b ≤ 1
+unfolding once
+once_small true = omega arith
+once_small false = omega arith
 
 -- ---- counting the children with a tag
 
@@ -50,35 +43,47 @@ module _ (t n : ℕ) where
   unfolding children
   tally-next r rs h = simp (le-ltb r.level n h) (tally-keep (eqb r.level n) r (children n rs))
 
--- ---- where the count of children stands: those from `from` on are `met` and those from `at` on
+-- ---- where the count of children stands: those from `from` on are `met` and those that are still to come
 
-pub record Counting (s : List ℕ) (from n tag at cap met : ℕ) : Type 0 where
-  pub small : met ≤ at
-  pub left : tally tag (children n (rest n s from)) ≡ met + tally tag (children n (rest cap s at))
+pub record Counting (s : List ℕ) (from n tag : ℕ) (p : Records) (met : ℕ) : Type 0 where
+  pub stream-is : p.stream.now ≡ s
+  pub small : met ≤ p.at.0
+  pub left : tally tag (children n (rest n s from)) ≡ met + tally tag (children n (rest p.cap s p.at.0))
 
 module _ {s : List ℕ} {from n tag : ℕ} where
-  pub counting_start : Counting s from n tag from n 0
-  counting_start = record { small = omega arith; left = sym (zero-add (tally tag (children n (rest n s from)))) }
-
-  module _ {at cap met : ℕ} (k : Counting s from n tag at cap met) where
+  module _ {p : Records} {met : ℕ} (k : Counting s from n tag p met) where
     -- at the end of the stream, or where it is broken
-    pub counting_end : rest cap s at ≡ [] → met ≡ tally tag (children n (rest n s from))
+    pub counting_end : rest p.cap s p.at.0 ≡ [] → met ≡ tally tag (children n (rest n s from))
     counting_end e =
-        let z : tally tag (children n (rest cap s at)) ≡ 0 = rw e (tally_end tag n) in
+        let z : tally tag (children n (rest p.cap s p.at.0)) ≡ 0 = rw e (tally_end tag n) in
         omega (arith, k.left)
 
-    module _ {r : Record} (d : Here s at cap r) where
+    module _ {q : Records} {r : Record} (d : Stepped s p q r) where
       -- behind the last record below the parent
       pub counting_beyond : r.level < n → met ≡ tally tag (children n (rest n s from))
       counting_beyond l =
-          let z : tally tag (children n (rest cap s at)) ≡ 0 = rw (walk-next d) (tally_beyond tag n d.rec _ (omega (arith, d.level_is))) in
+          let z : tally tag (children n (rest p.cap s p.at.0)) ≡ 0 = rw (walk-next d.here) (tally_beyond tag n d.here.rec _ (omega (arith, d.here.level_is))) in
           omega (arith, k.left)
 
-      pub counting_next : n ≤ r.level → (x : ℕ) → (x ≡ once (eqb r.level n && eqb r.tag tag)) × (x ≤ 1)
-          → Counting s from n tag r.next.0 (r.level + 1) (met + x)
-      counting_next l x e =
+      counting_on : n ≤ r.level → (b : Bool) → eqb r.level n && eqb r.tag tag ≡ b → Counting s from n tag q (met + once b)
+      unfolding once
+      counting_on l b e =
           let left = rest (r.level + 1) s r.next.0 in
-          let one : x ≡ once (eqb d.rec.level n && eqb d.rec.tag tag) = e.0 ∙ rw (d.level_is, d.tag_is) refl in
-          let step : tally tag (children n (rest cap s at)) ≡ once (eqb d.rec.level n && eqb d.rec.tag tag) + tally tag (children n left) =
-          ap (λ (rs : List Rec). tally tag (children n rs)) (walk-next d) ∙ tally-next tag n d.rec left (omega (arith, d.level_is)) in
-          record { small = omega (arith, k.small, d.next-is, d.size_low, e.1); left = omega (arith, k.left, step, one) }
+          let same : eqb d.here.rec.level n && eqb d.here.rec.tag tag ≡ b = rw (← d.here.level_is, ← d.here.tag_is) e in
+          let step : tally tag (children n (rest p.cap s p.at.0)) ≡ once (eqb d.here.rec.level n && eqb d.here.rec.tag tag) + tally tag (children n left) =
+          ap (λ (rs : List Rec). tally tag (children n rs)) (walk-next d.here) ∙ tally-next tag n d.here.rec left (omega (arith, d.here.level_is)) in
+          record {
+            stream-is = d.stream-is;
+            small = omega (arith, k.small, d.at-is, d.here.next-is, d.here.size_low, once_small b);
+            left = rw (d.at-is, d.cap-is) (omega (arith, k.left, step, ap once same));
+          }
+
+      -- a child with the tag, or not
+      pub counting_one : n ≤ r.level → r.level ≡ n → r.tag ≡ tag → Counting s from n tag q (met + 1)
+      unfolding once
+      counting_one h l e = counting_on h true (simp (eq-eqb r.level n l, eq-eqb r.tag tag e))
+
+      pub counting_other : n ≤ r.level → (r.level ≡ n × (r.tag ≡ tag → ⊥)) ⊎ (r.level ≡ n → ⊥) → Counting s from n tag q met
+      unfolding once
+      counting_other l (inl e) = rw add-zero at (counting_on l false (simp (eq-eqb r.level n e.0, ne_eqb r.tag tag e.1)))
+      counting_other l (inr e) = rw add-zero at (counting_on l false (simp (ne_eqb r.level n e)))

@@ -1,24 +1,22 @@
 -- The laws of counts: each clause of a definition as an equation under its test. Assumes nothing.
-use Prim.Native.Nat.{ℕ, zero, suc, ◌+◌, ◌-◌, ◌*◌, ◌≤◌, ◌<◌}
+use Rattle.std.specs.Prelude.{None, Option, Some}
+use Prim.Native.Nat.{ℕ, zero, suc, ◌+◌, ◌-◌, ◌*◌, ◌^◌, ◌≤◌, ◌<◌}
 use native.Mathlib.Omega.{arith}
 use native.Mathlib.Numerals.{add-one}
+use Rattle.std.proofs.Math.Nat.{pow-suc, pow-le-pow_right}
 use native.Mathlib.Decide.{dec_le}
-use native.Mathlib.Nat.{lt_of_not-le, zero-add, add-zero, sub-zero, mul-suc, mul-add}
-use mathlib.Core.Path.{◌≡◌, refl, sym, ap, ◌∙◌}
-use mathlib.Core.Bool.{Bool, true, false, not, cond}
-use mathlib.Core.Option.{Option, none, some}
+use native.Mathlib.Nat.{lt_of_not-le, zero-add, mul-suc, mul-add}
+use mathlib.Core.Path.{◌≡◌, refl, sym, ap, ◌∙◌, subst}
+use mathlib.Core.Bool.{Bool, true, false, cond}
 use mathlib.Core.List.{List, [], ◌∷◌}
 use lib.Dec.{ltb, eqb}
-use lib.ListN.{length, get_or, take, drop, drop_of_length-le}
+use lib.ListN.{length, get_or, drop, drop_of_length-le}
 use lib.Seq.{drop-cons}
-use borrow.Author.Tests.{le-leb, lt-leb, leb-true, lt-ltb, le-ltb, ltb-false}
+use borrow.Author.Tests.{le-leb, lt-leb, leb-true, ltb-false}
 use Rattle.numbers.specs.Little.{little, span}
-use Rattle.numbers.proofs.LittleLaws.{part_rest}
 use Rattle.records.specs.Records.{Rec}
 use Rattle.docinfo.specs.declared.counts.Group.{Group}
-use Rattle.docinfo.specs.declared.counts.Verdict.{Verdict}
-use Rattle.docinfo.specs.declared.counts.Verdict.TheVariants as W
-use Rattle.docinfo.specs.Counts.{tally, count_at, negative, negative_from, sum_from, groups, group_at, matched, unmatched, or_else, count_fault, verdict_of}
+use Rattle.docinfo.specs.Counts.{tally, count_at, negative, negative_from, sum_from, groups, matched, unmatched, or_else, count_fault}
 
 -- ---- the bits of a count
 
@@ -33,163 +31,122 @@ module _ (w : ℕ) (body : List ℕ) (i : ℕ) where
   unfolding count_at
   count_absent h = ap (little w) (drop_of_length-le body h) ∙ none_little w
 
-  module _ {b : ℕ} (e : b ≡ w) where
-    pub count_short : length body < b * i → (0 ≡ count_at w body i) × (0 < 4294967296)
-    count_short h = let l : length body < w * i = rw (← e) h in (sym (count_absent (omega arith)), omega arith)
+-- a count as it is read
+-- ---- how many numbers a count can hold
 
-    pub count_whole : {x : ℕ} → x ≡ little w (take (length body - b * i) (drop (b * i) body)) → x ≡ count_at w body i
-    unfolding count_at
-    count_whole f = f ∙ rw (part_rest, e) refl
+span_is : (w : ℕ) → 256 ^ w ≡ span w
+unfolding span
+span_is zero = refl
+span_is (suc w) = simp pow-suc (omega (arith, span_is w))
+
+pub span_fits : (w : ℕ) → w ≤ 4 → 256 ^ w < 18446744073709551616
+span_fits w h = let g : 256 ^ w ≤ 256 ^ 4 = pow-le-pow_right (omega arith) h in omega arith
 
 -- ---- negative counts: those from i on of n
 
-module _ (w : ℕ) (body : List ℕ) (n i : ℕ) where
-  pub negative_end : n ≤ i → negative_from w body i (n - i) ≡ none
-  unfolding negative_from
-  negative_end h = let e : n - i ≡ 0 = omega arith in rw e refl
-
-  pub negative_here : i < n → span w ≤ 2 * count_at w body i → negative_from w body i (n - i) ≡ some i
-  unfolding negative_from negative
-  negative_here l h =
-      let e : n - i ≡ suc (n - (i + 1)) = omega arith in
-      rw e (simp (le-leb (span w) (2 * count_at w body i) h))
-
-  pub negative-next : i < n → 2 * count_at w body i < span w → negative_from w body i (n - i) ≡ negative_from w body (i + 1) (n - (i + 1))
-  unfolding negative_from negative
-  negative-next l h =
-      let e : n - i ≡ suc (n - (i + 1)) = omega arith in
-      rw e (simp (lt-leb (span w) (2 * count_at w body i) h))
-
 -- where the search for a negative count stands: those before i of n are not
 pub record Negating (w : ℕ) (body : List ℕ) (n i : ℕ) : Type 0 where
-  pub inside : i ≤ n
   pub left : negative_from w body 0 n ≡ negative_from w body i (n - i)
 
--- ---- sums: where a sum of n counts from i on stands, k of which are summed, and each is below `cap`
+module _ {w : ℕ} {body : List ℕ} {n i : ℕ} (k : Negating w body n i) where
+  pub negative_end : n ≤ i → None ≡ negative_from w body 0 n
+  unfolding negative_from
+  negative_end h = let e : n - i ≡ 0 = omega arith in sym (k.left ∙ rw e refl)
 
-pub record Summing (w : ℕ) (body : List ℕ) (cap i n sum k : ℕ) : Type 0 where
-  pub inside : k ≤ n
-  pub small : sum ≤ cap * k
-  pub left : sum_from w body i n ≡ sum + sum_from w body (i + k) (n - k)
+  module _ (h : i < n) {x : ℕ} (e : x ≡ count_at w body i) where
+    next : negative_from w body i (n - i) ≡ cond (negative w x) (Some i) (negative_from w body (i + 1) (n - (i + 1)))
+    unfolding negative_from
+    next = let d : n - i ≡ suc (n - (i + 1)) = omega arith in rw (d, e) refl
 
-module _ (w : ℕ) (body : List ℕ) (cap i n : ℕ) where
-  pub summing_start : Summing w body cap i n 0 0
-  summing_start = record { inside = omega arith; small = omega arith; left = sym (simp (zero-add, add-zero, sub-zero)) }
+    pub negative_here : 256 ^ w ≤ 2 * x → Some i ≡ negative_from w body 0 n
+    unfolding negative
+    negative_here g = sym (k.left ∙ next ∙ simp (le-leb (span w) (2 * x) (omega (arith, span_is w))))
 
-  pub summing_next : {sum k : ℕ} → Summing w body cap i n sum k → k < n → (x : ℕ) → x ≡ count_at w body (i + k) → x < cap
-      → Summing w body cap i n (sum + x) (k + 1)
+    pub negative-next : 2 * x < 256 ^ w → Negating w body n (i + 1)
+    unfolding negative
+    negative-next g = record { left = k.left ∙ next ∙ simp (lt-leb (span w) (2 * x) (omega (arith, span_is w))) }
+
+-- ---- sums: where a sum of n counts from `first` on stands at count i, and each is below `cap`
+
+pub record Summing (w : ℕ) (body : List ℕ) (cap first n sum i : ℕ) : Type 0 where
+  pub small : sum ≤ cap * (i - first)
+  pub left : sum_from w body first n ≡ sum + sum_from w body i (first + n - i)
+
+module _ (w : ℕ) (body : List ℕ) (cap first n : ℕ) where
+  pub summing_start : Summing w body cap first n 0 first
+  summing_start =
+      let e : first + n - first ≡ n = omega arith in
+      record { small = omega arith; left = rw e (sym (zero-add (sum_from w body first n))) }
+
+  pub summing_next : {sum i : ℕ} → Summing w body cap first n sum i → first ≤ i → i < first + n → {x : ℕ} → x ≡ count_at w body i → x < cap
+      → Summing w body cap first n (sum + x) (i + 1)
   unfolding sum_from
-  summing_next {sum} {k} m h x e l =
-      let one : n - k ≡ suc (n - (k + 1)) = omega arith in
-      let on : i + k + 1 ≡ i + (k + 1) = omega arith in
-      let step : sum_from w body (i + k) (n - k) ≡ count_at w body (i + k) + sum_from w body (i + (k + 1)) (n - (k + 1)) = rw one (simp on) in
-      let more : cap * (k + 1) ≡ cap * k + cap = simp (add-one, mul-suc) in
-      record { inside = omega arith; small = omega (arith, m.small); left = omega (arith, m.left, step) }
+  summing_next {sum} {i} m h l {x} e k =
+      let one : first + n - i ≡ suc (first + n - (i + 1)) = omega arith in
+      let step : sum_from w body i (first + n - i) ≡ count_at w body i + sum_from w body (i + 1) (first + n - (i + 1)) = rw one refl in
+      let d : i + 1 - first ≡ suc (i - first) = omega arith in
+      let more : cap * (i + 1 - first) ≡ cap * (i - first) + cap = rw d (mul-suc cap (i - first)) in
+      record { small = omega (arith, m.small, more); left = omega (arith, m.left, step) }
 
-  pub summing_end : {sum k : ℕ} → Summing w body cap i n sum k → n ≤ k → sum ≡ sum_from w body i n
+  pub summing_end : {sum i : ℕ} → Summing w body cap first n sum i → first + n ≤ i → sum ≡ sum_from w body first n
   unfolding sum_from
-  summing_end {sum} {k} m h =
-      let none_left : n - k ≡ 0 = omega arith in
-      let e : sum_from w body (i + k) (n - k) ≡ 0 = rw none_left refl in
+  summing_end {sum} {i} m h =
+      let none_left : first + n - i ≡ 0 = omega arith in
+      let e : sum_from w body i (first + n - i) ≡ 0 = rw none_left refl in
       omega (arith, m.left)
 
 -- ---- the table
-
-rows : length groups ≡ 10
-unfolding groups
-rows = refl
-
-module _ (i : ℕ) (h : i < 10) where
-  pub group-next : drop i groups ≡ group_at i ∷ drop (i + 1) groups
-  unfolding group_at
-  group-next = rw add-one (drop-cons groups i _ (omega (arith, rows)))
-
-pub groups_end : (i : ℕ) → 10 ≤ i → drop i groups ≡ []
-groups_end i h =
-    let l : length groups ≤ i = omega (arith, rows) in
-    drop_of_length-le groups l
 
 -- every group lies within the sixteen counts
 abbrev InCounts : List Group → Type 0
 InCounts [] = Unit {0}
 InCounts (g ∷ gs) = (g.first + g.many ≤ 16) × InCounts gs
 
-within_at : (gs : List Group) (d : Group) (i : ℕ) → InCounts gs → d.first + d.many ≤ 16 → (get_or gs i d).first + (get_or gs i d).many ≤ 16
-within_at [] d i w h = h
+within_at : (gs : List Group) (d : Group) (i : ℕ) → InCounts gs → i < length gs → (get_or gs i d).first + (get_or gs i d).many ≤ 16
+within_at [] d i w h = absurd (omega arith)
 within_at (g ∷ gs) d zero w h = w.0
-within_at (g ∷ gs) d (suc i) w h = within_at gs d i w.1 h
+within_at (g ∷ gs) d (suc i) w h = within_at gs d i w.1 (omega arith)
 
 all_within : InCounts groups
 unfolding groups
 all_within = omega arith
 
-pub group-within : (i : ℕ) → (group_at i).first + (group_at i).many ≤ 16
-unfolding group_at
-group-within i = within_at groups _ i all_within (omega arith)
+-- where the matching stands, over the rows of the table: the groups before row i are matched
+pub record Matching (w : ℕ) (body : List ℕ) (kids : List Rec) (gs : List Group) (i : ℕ) : Type 0 where
+  pub table : gs ≡ groups
+  pub left : unmatched w body kids groups ≡ unmatched w body kids (drop i gs)
 
-module _ (w : ℕ) (body : List ℕ) (kids : List Rec) (g : Group) {b : ℕ} (e : b ≡ w) where
-  pub matched-absent : length body < b * (g.first + g.many) → true ≡ matched w body kids g
-  unfolding matched
-  matched-absent h = simp (lt-ltb (length body) (w * (g.first + g.many)) (rw (← e) h))
+pub matching_start : (w : ℕ) (body : List ℕ) (kids : List Rec) → Matching w body kids groups 0
+matching_start w body kids = record { table = refl; left = refl }
 
-  pub matched_there : b * (g.first + g.many) ≤ length body → {sum count : ℕ} → sum ≡ sum_from w body g.first g.many
-      → count ≡ tally g.tag kids → eqb sum count ≡ matched w body kids g
-  unfolding matched
-  matched_there h p q = simp (le-ltb (length body) (w * (g.first + g.many)) (rw (← e) h), p, q)
-
-flipped : (b : Bool) {c : Bool} → not b ≡ c → b ≡ not c
-flipped true e = ap not e
-flipped false e = ap not e
-
--- where the matching stands: the groups before row i are matched
-pub record Matching (w : ℕ) (body : List ℕ) (kids : List Rec) (i : ℕ) : Type 0 where
-  pub inside : i ≤ 10
-  pub left : unmatched w body kids groups ≡ unmatched w body kids (drop i groups)
-
-module _ {w : ℕ} {body : List ℕ} {kids : List Rec} {i : ℕ} (k : Matching w body kids i) where
-  pub matching_end : 10 ≤ i → W.Sound ≡ verdict_of (unmatched w body kids groups)
+module _ {w : ℕ} {body : List ℕ} {kids : List Rec} {gs : List Group} {i : ℕ} (k : Matching w body kids gs i) where
+  pub matching_end : length gs ≤ i → None ≡ unmatched w body kids groups
   unfolding unmatched
-  matching_end h = sym (ap verdict_of (k.left ∙ ap (unmatched w body kids) (groups_end i h)))
+  matching_end h = sym (k.left ∙ ap (unmatched w body kids) (drop_of_length-le gs h))
 
-  module _ (h : i < 10) {g : Group} (e : g ≡ group_at i) {b : Bool} (p : b ≡ matched w body kids g) where
-    row_next : unmatched w body kids (drop i groups) ≡ cond b (unmatched w body kids (drop (i + 1) groups)) (some g.first)
+  module _ (h : i < length gs) (d : Group) where
+    abbrev g : Group
+    g = get_or gs i d
+
+    row_next : unmatched w body kids (drop i gs) ≡ cond (matched w body kids g) (unmatched w body kids (drop (i + 1) gs)) (Some g.first)
     unfolding unmatched
-    row_next = rw (group-next i h, ← e, ← p) refl
+    row_next = let e : drop i gs ≡ g ∷ drop (i + 1) gs = rw add-one (drop-cons gs i d h) in ap (unmatched w body kids) e
 
-    pub matching_here : not b ≡ true → W.Fault g.first ≡ verdict_of (unmatched w body kids groups)
-    matching_here z = simp (k.left, row_next, flipped b z)
+    pub matching_within : g.first + g.many ≤ 16
+    matching_within = within_at gs d i (subst InCounts (sym k.table) all_within) h
 
-    pub matching_next : not b ≡ false → Matching w body kids (i + 1)
-    matching_next z = record { inside = omega arith; left = k.left ∙ row_next ∙ simp (flipped b z) }
+    pub matching_here : false ≡ matched w body kids g → Some g.first ≡ unmatched w body kids groups
+    matching_here e = simp (k.left, row_next, ← e)
 
--- ---- both together
-
-module _ (w : ℕ) (body : List ℕ) (kids : List Rec) where
-  fault_by : (o y : Option ℕ) (v : Verdict) → v ≡ verdict_of o → v ≡ W.Sound → verdict_of y ≡ verdict_of (or_else o y)
-  unfolding or_else
-  fault_by none y v e z = refl
-  fault_by (some i) y v e z = absurd (let b : ◌≡◌ {A = ℕ} 0 1 = cc in omega arith)
-
-  found_by : (o y : Option ℕ) (i : ℕ) → W.Fault i ≡ verdict_of o → W.Fault i ≡ verdict_of (or_else o y)
-  unfolding or_else
-  found_by none y i e = absurd (let b : ◌≡◌ {A = ℕ} 0 1 = cc in omega arith)
-  found_by (some j) y i e = e
-
-  pub fault-negative : (i : ℕ) → W.Fault i ≡ verdict_of (negative_from w body 0 16) → W.Fault i ≡ verdict_of (count_fault w body kids)
-  unfolding count_fault
-  fault-negative i e = found_by (negative_from w body 0 16) (unmatched w body kids groups) i e
-
-  pub fault-unmatched : (v : Verdict) → v ≡ verdict_of (negative_from w body 0 16) → v ≡ W.Sound
-      → verdict_of (unmatched w body kids groups) ≡ verdict_of (count_fault w body kids)
-  unfolding count_fault
-  fault-unmatched v e z = fault_by (negative_from w body 0 16) (unmatched w body kids groups) v e z
+    pub matching_next : true ≡ matched w body kids g → Matching w body kids gs (i + 1)
+    matching_next e = record { table = k.table; left = k.left ∙ row_next ∙ simp (← e) }
 
 -- ---- the count at fault is in the body
 
 -- a count, if there is one, that begins in the body or at its end
 abbrev pub Within : ℕ → List ℕ → Option ℕ → Type 0
-Within w body none = Unit {0}
-Within w body (some i) = w * i ≤ length body
+Within w body None = Unit {0}
+Within w body (Some i) = w * i ≤ length body
 
 span_some : (w : ℕ) → 0 < span w
 unfolding span
@@ -210,7 +167,7 @@ module _ (w : ℕ) (body : List ℕ) where
   negative-within i zero = tt
   negative-within i (suc k) = by (negative w (count_at w body i)) refl (negative-within (i + 1) k)
     where
-      by : (b : Bool) → negative w (count_at w body i) ≡ b → Within w body (negative_from w body (i + 1) k) → Within w body (cond b (some i) (negative_from w body (i + 1) k))
+      by : (b : Bool) → negative w (count_at w body i) ≡ b → Within w body (negative_from w body (i + 1) k) → Within w body (cond b (Some i) (negative_from w body (i + 1) k))
       by true e further = negative_there i e
       by false e further = further
 
@@ -230,19 +187,19 @@ module _ (w : ℕ) (body : List ℕ) where
     unmatched-within [] = tt
     unmatched-within (g ∷ gs) = by (matched w body kids g) refl (unmatched-within gs)
       where
-        by : (b : Bool) → matched w body kids g ≡ b → Within w body (unmatched w body kids gs) → Within w body (cond b (unmatched w body kids gs) (some g.first))
+        by : (b : Bool) → matched w body kids g ≡ b → Within w body (unmatched w body kids gs) → Within w body (cond b (unmatched w body kids gs) (Some g.first))
         by true e further = further
         by false e further = unmatched_there g e
 
     either_within : (o y : Option ℕ) → Within w body o → Within w body y → Within w body (or_else o y)
     unfolding or_else
-    either_within none y h k = k
-    either_within (some i) y h k = h
+    either_within None y h k = k
+    either_within (Some i) y h k = h
 
     pub fault-within : Within w body (count_fault w body kids)
     unfolding count_fault
     fault-within = either_within (negative_from w body 0 16) (unmatched w body kids groups) (negative-within 0 16) (unmatched-within groups)
 
-  pub within-told : (o : Option ℕ) (i : ℕ) → Within w body o → W.Fault i ≡ verdict_of o → w * i ≤ length body
-  within-told none i h e = absurd (let z : ◌≡◌ {A = ℕ} 0 1 = cc in omega arith)
-  within-told (some j) i h e = let same : i ≡ j = cc in rw same h
+  pub within-told : (o : Option ℕ) (i : ℕ) → Within w body o → Some i ≡ o → w * i ≤ length body
+  within-told None i h e = absurd (let z : ◌≡◌ {A = ℕ} 0 1 = cc in omega arith)
+  within-told (Some j) i h e = let same : i ≡ j = cc in rw same h

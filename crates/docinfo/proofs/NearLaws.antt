@@ -1,8 +1,8 @@
 -- Every place that the DocInfo read answers is within the limit. Assumes nothing.
+use Rattle.std.specs.Prelude.{None, Option, Some}
 use Prim.Native.Nat.{ℕ, ◌+◌, ◌≤◌}
 use native.Mathlib.Omega.{arith}
 use mathlib.Core.Bool.{Bool, true, false, cond}
-use mathlib.Core.Option.{Option, none, some}
 use mathlib.Core.List.{List, [], ◌∷◌}
 use lib.Dec.{ltb, eqb}
 use lib.ListN.{length}
@@ -16,10 +16,9 @@ use Rattle.records.proofs.ScanLaws.{length-encode, Near, judged_near}
 use Rattle.docinfo.specs.Only.{Located, body_place, tagged, Only, one, wrong, only_of, only}
 use Rattle.docinfo.specs.Widths.{count_bytes, form_of}
 use Rattle.docinfo.specs.Counts.{count_fault}
-use Rattle.docinfo.specs.declared.widths.Form.{Form}
-use Rattle.docinfo.specs.declared.widths.Form.TheVariants as M
 use Rattle.docinfo.specs.DocInfo.{kids_of, count_refusal, mappings_fault, bodies_fault, judged, docinfo_fault, docinfo_answer}
 use Rattle.docinfo.proofs.CountLaws.{Within, fault-within}
+use Rattle.docinfo.specs.declared.widths.Width.{Width}
 
 -- each ends at `end` or before it
 abbrev AllNear : ℕ → List Located → Type 0
@@ -61,14 +60,14 @@ near_cond end true x y h k = h
 near_cond end false x y h k = k
 
 count_near : (end p w : ℕ) (body : List ℕ) (o : Option ℕ) → Within w body o → p + length body ≤ end → Near end (count_refusal p w o)
-count_near end p w body none k h = tt
-count_near end p w body (some i) k h = omega (arith, k)
+count_near end p w body None k h = tt
+count_near end p w body (Some i) k h = omega (arith, k)
 
-mappings_near : (end : ℕ) (m : Located) (f : Form) → m.at + size m.it ≤ end → Near end (mappings_fault m f)
+mappings_near : (end : ℕ) (m : Located) (f : Option Width) → m.at + size m.it ≤ end → Near end (mappings_fault m f)
 unfolding size
-mappings_near end m (M.Counts w) h =
+mappings_near end m (Some w) h =
     count_near end (body_place m) (count_bytes w) m.it.body (count_fault (count_bytes w) m.it.body (kids_of m)) (fault-within (count_bytes w) m.it.body (kids_of m)) (omega arith)
-mappings_near end m M.Neither h = omega arith
+mappings_near end m None h = omega arith
 
 both_near : (end : ℕ) (x y : Only) → OnlyNear end x → OnlyNear end y → Near end (judged x y)
 unfolding judged bodies_fault

@@ -1,4 +1,5 @@
 -- The only record with a tag: where the records with a tag stand in a stream, and each way out of the search for the one. Assumes nothing.
+use Rattle.std.specs.Prelude.{Err, None, Ok, Some}
 use Prim.Native.Nat.{ℕ, ◌+◌}
 use native.Mathlib.Omega.{arith}
 use mathlib.Core.Path.{◌≡◌, refl, sym, ap, ◌∙◌}
@@ -8,15 +9,10 @@ use lib.Dec.{eqb}
 use borrow.Author.Tests.{eqb-true, eqb-false, eq-eqb, ne_eqb}
 use Rattle.numbers.specs.Little.{Bytes}
 use Rattle.records.specs.Records.{Rec, size}
-use Rattle.records.specs.Reading.{offset, record_at, ahead_of, Read, read_all}
-use Rattle.records.specs.declared.fault.Offset.{Offset}
+use Rattle.records.specs.Reading.{offset, record_at, ahead_of, Read, read_all, Ahead}
 use Rattle.records.specs.declared.header.Record.{Record}
-use Rattle.records.specs.declared.header.Ahead.{Ahead}
-use Rattle.records.specs.declared.header.Ahead.TheVariants as N
 use Rattle.records.proofs.ReadingLaws.{Here, here, stops_here, ends_here}
 use Rattle.docinfo.specs.Only.{Located, tagged, Only, one, wrong, only_of, only, record_of, sought_of, sole_of, located_at, InStream}
-use Rattle.docinfo.specs.declared.seek.Sought.TheVariants as S
-use Rattle.docinfo.specs.declared.seek.Sole.TheVariants as O
 use Rattle.docinfo.proofs.WalkLaws.{rest, walk_rec, walk_body}
 use Rattle.docinfo.proofs.SeekLaws.{tagged_here, tagged_other, tagged_none}
 
@@ -41,9 +37,9 @@ module _ (s : List ℕ) (bs : Bytes s) (at cap : ℕ) (r : Rec) (rs : List Rec) 
   begins_not n = absurd (let z : ◌≡◌ {A = ℕ} 0 1 = cc in omega arith)
 
   begins_by : (x : Ahead) → ahead_of cap s at ≡ x → Begins s at r rs
-  begins_by (N.Record k) q = begins_here k (here s at cap bs k q)
-  begins_by (N.Refused f) q = begins_not (ap (λ (y : Read). y.recs) (stops_here s at cap f q).reads)
-  begins_by N.End q = begins_not (ap (λ (y : Read). y.recs) (ends_here s at cap q))
+  begins_by (Some (Ok k)) q = begins_here k (here s at cap bs k q)
+  begins_by (Some (Err f)) q = begins_not (ap (λ (y : Read). y.recs) (stops_here s at cap f q).reads)
+  begins_by None q = begins_not (ap (λ (y : Read). y.recs) (ends_here s at cap q))
 
   begins : Begins s at r rs
   begins = begins_by (ahead_of cap s at) refl
@@ -96,11 +92,11 @@ pub record Heads (ps : List Located) (r : Record) : Type 0 where
   pub are : ps ≡ first ∷ others
   pub met : r ≡ record_of first
 
-sought_some : (ps : List Located) (r : Record) → sought_of ps ≡ S.Record r → Heads ps r
+sought_some : (ps : List Located) (r : Record) → sought_of ps ≡ Some r → Heads ps r
 sought_some [] r e = absurd (let z : ◌≡◌ {A = ℕ} 0 1 = cc in omega arith)
 sought_some (p ∷ ps) r e = record { first = p; others = ps; are = refl; met = cc }
 
-sought_none : (ps : List Located) → sought_of ps ≡ S.Nothing → ps ≡ []
+sought_none : (ps : List Located) → sought_of ps ≡ None → ps ≡ []
 sought_none [] e = refl
 sought_none (p ∷ ps) e = absurd (let z : ◌≡◌ {A = ℕ} 0 1 = cc in omega arith)
 
@@ -112,11 +108,11 @@ module _ (s : List ℕ) (t : ℕ) where
   unfolding only read_all
   only-is = refl
 
-  pub only-absent : sought_of all ≡ S.Nothing → O.Wrong (offset 0) ≡ sole_of (only t (read_all s).recs)
+  pub only-absent : sought_of all ≡ None → Err (offset 0) ≡ sole_of (only t (read_all s).recs)
   unfolding only_of
   only-absent e = sym (ap sole_of (only-is ∙ ap only_of (sought_none all e)))
 
-  module _ (bs : Bytes s) (r : Record) (e : sought_of all ≡ S.Record r) where
+  module _ (bs : Bytes s) (r : Record) (e : sought_of all ≡ Some r) where
     k : Heads all r
     k = sought_some all r e
 
@@ -126,9 +122,9 @@ module _ (s : List ℕ) (t : ℕ) where
     level_is : r.level ≡ k.first.it.level
     level_is = ap (λ (x : Record). x.level) k.met
 
-    pub only_low : (r.level ≡ 0 → ⊥) → O.Wrong r.at ≡ sole_of (only t (read_all s).recs)
+    pub only_low : (r.level ≡ 0 → ⊥) → Err r.at ≡ sole_of (only t (read_all s).recs)
     only_low h =
-        ap (λ (x : Record). O.Wrong x.at) k.met
+        ap (λ (x : Record). Err x.at) k.met
         ∙ sym (ap sole_of (only-is ∙ ap only_of k.are ∙ only_of_low k.first k.others (λ q. h (level_is ∙ q))))
 
     module _ (h : r.level ≡ 0) where
@@ -144,17 +140,17 @@ module _ (s : List ℕ) (t : ℕ) where
           (sym (ap (λ (x : Located). x.behind) stood.is) ∙ ap (λ (c : ℕ). rest c s (record_of k.first).next.0) next)
           ∙ ap (λ (x : Record). tagged t x.next.0 (rest 1 s x.next.0)) (sym k.met)
 
-      pub only-doubled : (second : Record) → sought_of behind ≡ S.Record second → O.Wrong second.at ≡ sole_of (only t (read_all s).recs)
+      pub only-doubled : (second : Record) → sought_of behind ≡ Some second → Err second.at ≡ sole_of (only t (read_all s).recs)
       only-doubled second f =
           let j = sought_some behind second f in
           let two : all ≡ k.first ∷ j.first ∷ j.others = k.are ∙ ap (λ (l : List Located). k.first ∷ l) (others_are ∙ j.are) in
-          ap (λ (x : Record). O.Wrong x.at) j.met
+          ap (λ (x : Record). Err x.at) j.met
           ∙ sym (ap sole_of (only-is ∙ ap only_of two ∙ only_of-doubled k.first j.first j.others (sym level_is ∙ h)))
 
-      pub only_one : sought_of behind ≡ S.Nothing → O.One r ≡ sole_of (only t (read_all s).recs)
+      pub only_one : sought_of behind ≡ None → Ok r ≡ sole_of (only t (read_all s).recs)
       only_one f =
           let alone : all ≡ k.first ∷ [] = k.are ∙ ap (λ (l : List Located). k.first ∷ l) (others_are ∙ sought_none behind f) in
-          ap O.One k.met ∙ sym (ap sole_of (only-is ∙ ap only_of alone ∙ only_of_one k.first (sym level_is ∙ h)))
+          ap Ok k.met ∙ sym (ap sole_of (only-is ∙ ap only_of alone ∙ only_of_one k.first (sym level_is ∙ h)))
 
 -- ---- what the one record is
 
@@ -168,17 +164,13 @@ only_of-is (q ∷ []) p e = by_level (eqb q.it.level 0) refl e
     by_level false l k = absurd (let z : ◌≡◌ {A = ℕ} 0 1 = cc in omega arith)
 only_of-is (q ∷ r ∷ rs) p e = absurd (let z : ◌≡◌ {A = ℕ} 0 1 = cc in omega arith)
 
-pub sole_wrong : (x : Only) (o : Offset) → sole_of x ≡ O.Wrong o → x ≡ wrong o.0
-sole_wrong (one p) o e = absurd (let z : ◌≡◌ {A = ℕ} 0 1 = cc in omega arith)
-sole_wrong (wrong a) o e = let same : record { 0 = a } ≡ o = cc in ap (λ (k : Offset). wrong k.0) same
-
 pub record Alone (s : List ℕ) (t : ℕ) (r : Record) : Type 0 where
   pub is : only t (read_all s).recs ≡ one (located_at s r)
   pub inside : InStream s r
   pub level : r.level ≡ 0
 
 module _ (s : List ℕ) (bs : Bytes s) (t : ℕ) (r : Record) where
-  alone_by : (x : Only) → only t (read_all s).recs ≡ x → sole_of x ≡ O.One r → Alone s t r
+  alone_by : (x : Only) → only t (read_all s).recs ≡ x → sole_of x ≡ Ok r → Alone s t r
   alone_by (wrong a) q e = absurd (let z : ◌≡◌ {A = ℕ} 0 1 = cc in omega arith)
   alone_by (one p) q e =
       let met : record_of p ≡ r = cc in
@@ -186,5 +178,5 @@ module _ (s : List ℕ) (bs : Bytes s) (t : ℕ) (r : Record) where
       let d = stands s bs t (rest 0 s 0) 0 0 refl p [] k.0 in
       rw (← met) (record { is = q ∙ ap one (sym d.is); inside = d.inside; level = k.1 })
 
-  pub alone : sole_of (only t (read_all s).recs) ≡ O.One r → Alone s t r
+  pub alone : sole_of (only t (read_all s).recs) ≡ Ok r → Alone s t r
   alone e = alone_by (only t (read_all s).recs) refl e

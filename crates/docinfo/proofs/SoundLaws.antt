@@ -1,11 +1,11 @@
 -- The tests of DocInfo find no fault exactly where its rules hold, rule by rule. Assumes nothing.
+use Rattle.std.specs.Prelude.{None, Option, Some}
 use Prim.Native.Nat.{ℕ, zero, suc, ◌+◌, ◌*◌, ◌≤◌, ◌<◌}
 use native.Mathlib.Omega.{arith}
 use native.Mathlib.Decide.{dec_le}
 use native.Mathlib.Nat.{le_trans, lt_of_not-le, add-zero, mul-le-mul_left}
 use mathlib.Core.Path.{◌≡◌, refl, sym, ap, ◌∙◌}
 use mathlib.Core.Bool.{Bool, true, false, cond}
-use mathlib.Core.Option.{Option, none, some}
 use mathlib.Core.Logic.{◌⊎◌, inl, inr}
 use mathlib.Core.List.{List, [], ◌∷◌, ◌++◌}
 use lib.Dec.{leb, ltb, eqb, lit<}
@@ -82,14 +82,14 @@ tagged_split t at (r ∷ rs) p e = by_tag (eqb r.tag t) refl (tagged_split t (at
 -- ---- the counts
 
 module _ (w : ℕ) (body : List ℕ) where
-  pub negative_none : (i k : ℕ) → negative_from w body i k ≡ none → (j : ℕ) → i ≤ j → j < i + k → 2 * count_at w body j < span w
+  pub negative_none : (i k : ℕ) → negative_from w body i k ≡ None → (j : ℕ) → i ≤ j → j < i + k → 2 * count_at w body j < span w
   unfolding negative_from negative
   negative_none i zero e j l h = absurd (omega arith)
   negative_none i (suc k) e j l h =
       by_test (leb (span w) (2 * count_at w body i)) refl e (λ z g. negative_none (i + 1) k z j (omega arith) (omega arith))
     where
-      by_test : (b : Bool) → leb (span w) (2 * count_at w body i) ≡ b → cond b (some i) (negative_from w body (i + 1) k) ≡ none
-          → (negative_from w body (i + 1) k ≡ none → i < j → 2 * count_at w body j < span w) → 2 * count_at w body j < span w
+      by_test : (b : Bool) → leb (span w) (2 * count_at w body i) ≡ b → cond b (Some i) (negative_from w body (i + 1) k) ≡ None
+          → (negative_from w body (i + 1) k ≡ None → i < j → 2 * count_at w body j < span w) → 2 * count_at w body j < span w
       by_test true q z further = absurd (let z : ◌≡◌ {A = ℕ} 0 1 = cc in omega arith)
       by_test false q z further =
           elim (dec_le j i) [
@@ -99,7 +99,7 @@ module _ (w : ℕ) (body : List ℕ) where
             | no g ↦ further z (lt_of_not-le g)
           ]
 
-  pub none_negative : (i k : ℕ) → ((j : ℕ) → i ≤ j → j < i + k → 2 * count_at w body j < span w) → negative_from w body i k ≡ none
+  pub none_negative : (i k : ℕ) → ((j : ℕ) → i ≤ j → j < i + k → 2 * count_at w body j < span w) → negative_from w body i k ≡ None
   unfolding negative_from negative
   none_negative i zero h = refl
   none_negative i (suc k) h =
@@ -129,17 +129,17 @@ module _ (w : ℕ) (body : List ℕ) (kids : List Rec) where
   Matched [] = Unit {0}
   Matched (g ∷ gs) = Agrees g × Matched gs
 
-  pub unmatched_none : (gs : List Group) → unmatched w body kids gs ≡ none → Matched gs
+  pub unmatched_none : (gs : List Group) → unmatched w body kids gs ≡ None → Matched gs
   unfolding unmatched
   unmatched_none [] e = tt
   unmatched_none (g ∷ gs) e = by_test (matched w body kids g) refl e (unmatched_none gs)
     where
-      by_test : (b : Bool) → matched w body kids g ≡ b → cond b (unmatched w body kids gs) (some g.first) ≡ none
-          → (unmatched w body kids gs ≡ none → Matched gs) → Matched (g ∷ gs)
+      by_test : (b : Bool) → matched w body kids g ≡ b → cond b (unmatched w body kids gs) (Some g.first) ≡ None
+          → (unmatched w body kids gs ≡ None → Matched gs) → Matched (g ∷ gs)
       by_test true q z further = (matched_agrees g q, further z)
       by_test false q z further = absurd (let z : ◌≡◌ {A = ℕ} 0 1 = cc in omega arith)
 
-  pub none_unmatched : (gs : List Group) → Matched gs → unmatched w body kids gs ≡ none
+  pub none_unmatched : (gs : List Group) → Matched gs → unmatched w body kids gs ≡ None
   unfolding unmatched
   none_unmatched [] m = refl
   none_unmatched (g ∷ gs) m = simp (agrees_matched g m.0) (none_unmatched gs m.1)
@@ -201,20 +201,20 @@ module _ {w sign : ℕ} {body : List ℕ} (kids : List Rec) (k : Counted w sign 
             omega (arith, h j l (le_trans (mul-le-mul_left w lower) k.fifteen), k.sign_is)
       ]
 
-  or_none : (x y : Option ℕ) → or_else x y ≡ none → (x ≡ none) × (y ≡ none)
+  or_none : (x y : Option ℕ) → or_else x y ≡ None → (x ≡ None) × (y ≡ None)
   unfolding or_else
-  or_none none y e = (refl, e)
-  or_none (some i) y e = absurd (let z : ◌≡◌ {A = ℕ} 0 1 = cc in omega arith)
+  or_none None y e = (refl, e)
+  or_none (Some i) y e = absurd (let z : ◌≡◌ {A = ℕ} 0 1 = cc in omega arith)
 
   -- the counts hold exactly where none is at fault
-  pub counts_hold : count_fault w body kids ≡ none → CountsHold w sign body kids
+  pub counts_hold : count_fault w body kids ≡ None → CountsHold w sign body kids
   unfolding count_fault
   counts_hold e =
       let f = or_none (negative_from w body 0 16) (unmatched w body kids groups) e in
       in_words (unmatched_none w body kids groups f.1)
       (λ i h l. omega (arith, negative_none w body 0 16 f.0 i (omega arith) (omega arith), k.sign_is))
 
-  pub counts_fine : CountsHold w sign body kids → count_fault w body kids ≡ none
+  pub counts_fine : CountsHold w sign body kids → count_fault w body kids ≡ None
   unfolding count_fault or_else
   counts_fine h =
       simp (none_negative w body 0 16 (λ j l m. each_low h.none_negative j (omega arith))) (none_unmatched w body kids groups (in_table h))

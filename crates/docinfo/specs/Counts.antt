@@ -1,11 +1,8 @@
 -- The counts of record 17 and what they are matched with (document 01, 'DocInfo', tables 10 and 11; document 02, A4), over the width of a count.
-use Rattle.std.specs.Prelude.{ℕ, zero, suc, ◌+◌, ◌*◌, Bool, true, false, cond, List, [], ◌∷◌, leb, ltb, eqb, length, get_or, drop}
-use Rattle.std.proofs.Math.Option.{Option, none, some}
+use Rattle.std.specs.Prelude.{ℕ, zero, suc, ◌+◌, ◌*◌, Bool, true, false, cond, List, [], ◌∷◌, leb, ltb, eqb, length, drop, None, Option, Some}
 use Rattle.numbers.specs.Little.{little, span}
 use Rattle.records.specs.Records.{Rec}
 use Rattle.docinfo.specs.declared.counts.Group.{Group}
-use Rattle.docinfo.specs.declared.counts.Verdict.{Verdict}
-use Rattle.docinfo.specs.declared.counts.Verdict.TheVariants as W
 
 -- one where the test holds, and else none
 unfoldable pub once : Bool → ℕ
@@ -27,8 +24,8 @@ negative w x = leb (span w) (2 * x)
 
 -- the first negative count from i on, of k; one that is not there has no bits, and is not negative
 unfoldable pub negative_from : ℕ → List ℕ → ℕ → ℕ → Option ℕ
-negative_from w body i zero = none
-negative_from w body i (suc k) = cond (negative w (count_at w body i)) (some i) (negative_from w body (i + 1) k)
+negative_from w body i zero = None
+negative_from w body i (suc k) = cond (negative w (count_at w body i)) (Some i) (negative_from w body (i + 1) k)
 
 -- the sum of k counts from i on
 unfoldable pub sum_from : ℕ → List ℕ → ℕ → ℕ → ℕ
@@ -49,10 +46,6 @@ groups =
     group 0 1 18 ∷ group 1 7 19 ∷ group 8 1 20 ∷ group 9 1 21 ∷ group 10 1 22 ∷ group 11 1 23 ∷ group 12 1 24 ∷ group 13 1 25
     ∷ group 14 1 26 ∷ group 15 1 92 ∷ []
 
--- the group at a row of the table
-unfoldable pub group_at : ℕ → Group
-group_at i = get_or groups i (group 0 0 0)
-
 -- a group's counts sum to the number of children with its tag; where the body ends before they do, nothing is asked
 unfoldable pub matched : ℕ → List ℕ → List Rec → Group → Bool
 matched w body kids g =
@@ -60,19 +53,14 @@ matched w body kids g =
 
 -- the first count of the first group that is not matched
 unfoldable pub unmatched : ℕ → List ℕ → List Rec → List Group → Option ℕ
-unmatched w body kids [] = none
-unmatched w body kids (g ∷ gs) = cond (matched w body kids g) (unmatched w body kids gs) (some g.first)
+unmatched w body kids [] = None
+unmatched w body kids (g ∷ gs) = cond (matched w body kids g) (unmatched w body kids gs) (Some g.first)
 
 -- one finding, and else the other
 unfoldable pub or_else : Option ℕ → Option ℕ → Option ℕ
-or_else none y = y
-or_else (some i) y = some i
+or_else None y = y
+or_else (Some i) y = Some i
 
 -- the count at fault, if there is one: the first that is negative, else the first in a group that is not matched
 unfoldable pub count_fault : ℕ → List ℕ → List Rec → Option ℕ
 count_fault w body kids = or_else (negative_from w body 0 counts_in) (unmatched w body kids groups)
-
--- the same as the code's answer
-abbrev pub verdict_of : Option ℕ → Verdict
-verdict_of none = W.Sound
-verdict_of (some i) = W.Fault i

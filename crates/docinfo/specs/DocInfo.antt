@@ -1,22 +1,21 @@
 -- What the DocInfo read answers (document 01, 'DocInfo', numbers 16 to 18 and 'Order'; document 02, A4).
-use Rattle.std.specs.Prelude.{ℕ, ◌+◌, ◌*◌, cond, List, ltb, length}
-use Rattle.std.proofs.Math.Option.{Option, none, some}
+use Rattle.records.specs.Answers.{Answer}
+use Rattle.std.specs.Prelude.{ℕ, ◌+◌, ◌*◌, cond, List, ltb, length, take, drop, None, Option, Some}
 use Rattle.records.specs.Records.{Rec}
 use Rattle.records.specs.Parents.{children}
-use Rattle.records.specs.Reading.{read_all}
+use Rattle.records.specs.Reading.{read_from, read_all}
 use Rattle.records.specs.Table.{read_answer, after_read}
 use Rattle.records.specs.declared.fault.Fault.{Fault}
 use Rattle.records.specs.declared.fault.Fault.TheVariants as F
 use Rattle.records.specs.declared.fault.Refusal.{Refusal}
-use Rattle.records.specs.declared.fault.Answer.{Answer}
+use Rattle.records.specs.declared.header.Record.{Record}
 use Rattle.docinfo.specs.Only.{Located, body_place, Only, one, wrong, only}
 use Rattle.docinfo.specs.Widths.{count_bytes, form_of}
 use Rattle.docinfo.specs.Counts.{count_fault}
-use Rattle.docinfo.specs.declared.widths.Form.{Form}
-use Rattle.docinfo.specs.declared.widths.Form.TheVariants as M
+use Rattle.docinfo.specs.declared.widths.Width.{Width}
 
 abbrev pub fault_at : Fault → ℕ → Option Refusal
-fault_at f p = some (record { fault = f; place = record { 0 = p } })
+fault_at f p = Some (record { fault = f; place = record { 0 = p } })
 
 -- the children of record 17, which stands at level 0
 unfoldable pub kids_of : Located → List Rec
@@ -24,13 +23,18 @@ kids_of m = children 1 m.behind
 
 -- 18 at the count at fault, the first byte of w, where the body begins at p (document 02, A12)
 abbrev pub count_refusal : ℕ → ℕ → Option ℕ → Option Refusal
-count_refusal p w none = none
-count_refusal p w (some i) = fault_at F.CountUnmatched (p + w * i)
+count_refusal p w None = None
+count_refusal p w (Some i) = fault_at F.CountUnmatched (p + w * i)
+
+-- 18 for record 17 where its counts have w bytes, as it stands in a stream at level 0
+abbrev pub counts_fault : ℕ → List ℕ → Record → Option Refusal
+counts_fault w s m =
+    count_refusal m.body.0 w (count_fault w (take m.len (drop m.body.0 s)) (children 1 (read_from 1 0 (drop m.next.0 s)).recs))
 
 -- 17 for record 17, where its length holds no counts, and 18
-abbrev pub mappings_fault : Located → Form → Option Refusal
-mappings_fault m M.Neither = fault_at F.DocInfoLength m.at
-mappings_fault m (M.Counts w) = count_refusal (body_place m) (count_bytes w) (count_fault (count_bytes w) m.it.body (kids_of m))
+abbrev pub mappings_fault : Located → Option Width → Option Refusal
+mappings_fault m None = fault_at F.DocInfoLength m.at
+mappings_fault m (Some w) = count_refusal (body_place m) (count_bytes w) (count_fault (count_bytes w) m.it.body (kids_of m))
 
 -- 17 for record 16, which has 30 bytes or more, and then record 17
 unfoldable pub bodies_fault : Located → Located → Option Refusal

@@ -1,13 +1,13 @@
 -- The only record with a tag, at level 0 (document 01, 'DocInfo', and number 16).
-use Rattle.std.specs.Prelude.{ℕ, ◌+◌, ◌≤◌, ◌≡◌, cond, List, [], ◌∷◌, eqb, length, take, drop}
+use Rattle.std.specs.Prelude.{ℕ, ◌+◌, ◌≤◌, ◌≡◌, cond, List, [], ◌∷◌, eqb, length, take, drop, Err, None, Ok, Some, Result, Option}
 use Rattle.records.specs.Records.{Rec, lead_of, size}
 use Rattle.records.specs.Parents.{keep_if}
 use Rattle.records.specs.Reading.{offset, record_at, read_from}
 use Rattle.records.specs.declared.header.Record.{Record}
-use Rattle.docinfo.specs.declared.seek.Sought.{Sought}
-use Rattle.docinfo.specs.declared.seek.Sought.TheVariants as S
-use Rattle.docinfo.specs.declared.seek.Sole.{Sole}
-use Rattle.docinfo.specs.declared.seek.Sole.TheVariants as O
+use Rattle.records.specs.Answers.{refusal}
+use Rattle.records.specs.declared.fault.Fault.TheVariants as F
+use Rattle.records.specs.declared.fault.Offset.{Offset}
+use Rattle.records.specs.declared.fault.Refusal.{Refusal}
 
 -- a record of a stream: the place of its header, the record, and the records behind it
 pub record Located : Type 0 where
@@ -44,13 +44,18 @@ abbrev pub record_of : Located → Record
 record_of p = record_at p.at p.it
 
 -- the first of them
-abbrev pub sought_of : List Located → Sought
-sought_of [] = S.Nothing
-sought_of (p ∷ ps) = S.Record (record_of p)
+abbrev pub sought_of : List Located → Option Record
+sought_of [] = None
+sought_of (p ∷ ps) = Some (record_of p)
 
-abbrev pub sole_of : Only → Sole
-sole_of (one p) = O.One (record_of p)
-sole_of (wrong a) = O.Wrong (offset a)
+abbrev pub sole_of : Only → Result Record Offset
+sole_of (one p) = Ok (record_of p)
+sole_of (wrong a) = Err (offset a)
+
+-- the same with 16 for its fault
+abbrev pub required_of : Only → Result Record Refusal
+required_of (one p) = Ok (record_of p)
+required_of (wrong a) = Err (refusal F.DocInfoRecord a)
 
 -- what a record is in a stream
 abbrev pub located_at : List ℕ → Record → Located

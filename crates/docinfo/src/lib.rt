@@ -8,7 +8,7 @@ mod seek;
 mod widths;
 
 pub use children::count_children;
-pub use counts::{Group, Verdict};
+pub use counts::Group;
 pub use read::check_docinfo;
-pub use seek::{Sole, Sought, only};
-pub use widths::{Form, Width};
+pub use seek::only;
+pub use widths::Width;

@@ -1,18 +1,21 @@
 -- The passes over shapes and marks: what is still to be judged, and one law for each way that it goes on. Assumes nothing.
+use Rattle.std.specs.Prelude.{None, Option, Some}
 use Prim.Native.Nat.{ℕ, zero, suc, ◌+◌, ◌-◌, ◌*◌, ◌/◌, ◌≤◌, ◌<◌, max}
 use native.Mathlib.Omega.{arith}
-use native.Mathlib.Nat.{zero-add, sub-zero}
+use native.Mathlib.Nat.{zero-add}
+use native.Mathlib.Numerals.{add-one}
 use mathlib.Core.Path.{◌≡◌, refl, sym, ap, ◌∙◌, subst}
+use mathlib.Core.Logic.{◌⊎◌, inl, inr}
 use mathlib.Core.Bool.{Bool, true, false, cond, ◌&&◌}
-use mathlib.Core.Option.{Option, none, some}
-use mathlib.Core.List.{List, [], ◌∷◌, map}
+use mathlib.Core.List.{List, [], ◌∷◌, ◌++◌, map}
 use lib.Dec.{ltb, leb, eqb}
-use lib.ListN.{length, drop, length-map}
-use lib.Seq.{drop-drop}
-use borrow.Author.Tests.{le-leb, lt-leb, lt-ltb, le-ltb, eq-eqb, ne_eqb}
+use lib.ListN.{length, drop, length-append, length-drop, length-map}
+use lib.Seq.{drop-drop, drop-append_seam}
+use borrow.Author.Tests.{ltb-true, le-leb, lt-leb, le-ltb, ne_eqb}
+use Rattle.std.proofs.lemmas.List.{drop-append-le, take-append-le}
 use Rattle.numbers.specs.Little.{little}
-use Rattle.entries.specs.Entries.{entries, later_fault, start_fault, shapes_fault, mark_fault, marks_fault, entries_of}
-use Rattle.entries.specs.declared.Entries.TheVariants as E
+use Rattle.numbers.proofs.LittleLaws.{little_front}
+use Rattle.entries.specs.Entries.{entries, later_fault, start_fault, shapes_fault, mark_fault, marks_fault}
 
 -- ---- entries of any width
 
@@ -27,107 +30,153 @@ module _ (w n i : ℕ) (b : List ℕ) where
   unfolding entries
   entries_end h = let none : n - i ≡ 0 = omega arith in rw none
 
-pub entries_some : (w n : ℕ) (b : List ℕ) → (n ≡ 0 → ⊥) → entries w n b ≡ b ∷ entries w (n - 1) (drop w b)
+-- a body s that begins with an entry x of w bytes, with t behind it
+pub record Begins (w : ℕ) (s x t : List ℕ) : Type 0 where
+  pub parts : s ≡ x ++ t
+  pub wide : length x ≡ w
+
+module _ {w : ℕ} {s x t : List ℕ} (k : Begins w s x t) where
+  behind : drop w s ≡ t
+  behind = ap (λ (l : List ℕ). drop w l) k.parts ∙ ap (λ (n : ℕ). drop n (x ++ t)) (sym k.wide) ∙ drop-append_seam x t
+
+  pub entries_taken : length s / w ≡ suc (length t / w) → entries w (length s / w) s ≡ s ∷ entries w (length t / w) t
+  unfolding entries
+  entries_taken n = rw n (ap (λ (l : List ℕ). s ∷ entries w (length t / w) l) behind)
+
+  -- a number in the entry
+  pub number_in : (n i : ℕ) → i + n ≤ w → little n (drop i s) ≡ little n (drop i x)
+  number_in n i h =
+      let inside : i ≤ length x = omega (arith, k.wide, h) in
+      let more : n ≤ length (drop i x) = simp length-drop (omega (arith, k.wide, h)) in
+      ap (λ (l : List ℕ). little n (drop i l)) k.parts
+      ∙ rw (drop-append-le i x t inside)
+      (sym (little_front n n (drop i x ++ t) (omega arith)) ∙ rw (take-append-le n (drop i x) t more) (little_front n n (drop i x) (omega arith)))
+
+pub entries_none : (w : ℕ) (s : List ℕ) → length s / w ≡ 0 → entries w (length s / w) s ≡ []
 unfolding entries
-entries_some w zero b h = absurd (h refl)
-entries_some w (suc n) b h = let e : suc n - 1 ≡ n = omega arith in rw e
+entries_none w s n = rw n
 
 -- ---- shapes
 
--- what is at fault is what is at fault from start i on, behind the start `before`
-pub record Rising (b : List ℕ) (count n bound i before : ℕ) : Type 0 where
-  pub number : n ≡ length b / 8
-  pub limit : bound ≡ max 1 count
-  pub rest : shapes_fault count b ≡ later_fault i before bound (map (little 4) (entries 8 (n - i) (drop (8 * i) b)))
+-- the same with the next start in a range, from `low` on and below `end`
+unfoldable pub ranged_fault : ℕ → ℕ → ℕ → ℕ → List ℕ → Option ℕ
+ranged_fault i low end bound [] = None
+ranged_fault i low end bound (s ∷ ss) = cond (leb low s && ltb s end) (later_fault (i + 1) s bound ss) (Some i)
 
-pub shapes_none : (b : List ℕ) (count : ℕ) → length b / 8 ≡ 0 → E.Sound ≡ entries_of (shapes_fault count b)
-unfolding shapes_fault start_fault entries
-shapes_none b count e = rw e
+-- the first start is in 0..1
+ranged_first : (bound : ℕ) (ss : List ℕ) → start_fault bound ss ≡ ranged_fault 0 0 1 bound ss
+unfolding start_fault ranged_fault
+ranged_first bound [] = refl
+ranged_first bound (zero ∷ ss) = refl
+ranged_first bound (suc s ∷ ss) = rw (ne_eqb (suc s) 0 (λ e. omega arith), le-leb 0 (suc s) (omega arith), le-ltb (suc s) 1 (omega arith))
 
--- the first start
-module _ (b : List ℕ) (count : ℕ) (x : ℕ) (some : length b / 8 ≡ 0 → ⊥) (is : x ≡ little 4 b) where
-  first : shapes_fault count b ≡ start_fault (max 1 count) (little 4 b ∷ map (little 4) (entries 8 (length b / 8 - 1) (drop 8 b)))
-  unfolding shapes_fault
-  first = ap (λ (l : List (List ℕ)). start_fault (max 1 count) (map (little 4) l)) (entries_some 8 (length b / 8) b some)
+-- any other in before + 1..bound
+ranged_later : (i before bound : ℕ) (ss : List ℕ) → later_fault i before bound ss ≡ ranged_fault i (before + 1) bound bound ss
+unfolding later_fault ranged_fault
+ranged_later i before bound [] = refl
+ranged_later i before bound (s ∷ ss) = rw (add-one before)
 
-  pub shapes_first : (x ≡ 0 → ⊥) → E.Wrong 0 ≡ entries_of (shapes_fault count b)
-  unfolding start_fault
-  shapes_first g = sym (ap entries_of first ∙ rw (← is, ne_eqb x 0 g))
+second : (a b : Bool) → true ≡ (a && b) → b ≡ true
+second true b e = sym e
+second false b e = absurd (let z : ◌≡◌ {A = ℕ} 0 1 = cc in omega arith)
 
-  pub rising_start : (bound : ℕ) → bound ≡ max 1 count → x ≡ 0 → Rising b count (length b / 8) bound 1 x
-  unfolding start_fault
-  rising_start bound e z = record { number = refl; limit = e; rest = first ∙ rw (← is, eq-eqb x 0 z, e) }
+-- what is at fault is what is at fault in the rest, whose first start has index i
+pub record Rising (b : List ℕ) (count bound low end i size : ℕ) (rest : List ℕ) : Type 0 where
+  pub wide : size ≡ 8
+  pub small : end < 4294967296
+  pub left : shapes_fault count b ≡ ranged_fault i low end bound (map (little 4) (entries 8 (length rest / 8) rest))
 
-module _ {b : List ℕ} {count n bound i before : ℕ} (k : Rising b count n bound i before) where
-  module _ (x : ℕ) (h : i < n) (is : x ≡ little 4 (drop (8 * i) b)) where
-    here : shapes_fault count b ≡ later_fault i before bound (little 4 (drop (8 * i) b) ∷ map (little 4) (entries 8 (n - (i + 1)) (drop (8 * i + 8) b)))
-    here = k.rest ∙ ap (λ (l : List (List ℕ)). later_fault i before bound (map (little 4) l)) (entries_next 8 n i b h)
+pub rising_start : (b : List ℕ) (count bound i size : ℕ) (rest : List ℕ) → bound ≡ max count 1 → i ≡ 0 → size ≡ 8 → rest ≡ b
+    → Rising b count bound 0 1 i size rest
+unfolding shapes_fault
+rising_start b count bound i size rest e at wide all =
+    let same : bound ≡ max 1 count = omega (arith, e) in
+    let left : shapes_fault count b ≡ ranged_fault 0 0 1 bound (map (little 4) (entries 8 (length b / 8) b)) =
+    rw same (ranged_first (max 1 count) (map (little 4) (entries 8 (length b / 8) b))) in
+    record { wide = wide; small = omega arith; left = rw (at, all) left }
 
-    pub rising_low : x ≤ before → E.Wrong i ≡ entries_of (shapes_fault count b)
-    unfolding later_fault
-    rising_low g = sym (ap entries_of here ∙ rw (← is, le-ltb before x g))
+module _ {b : List ℕ} {count bound low end i size : ℕ} {rest : List ℕ} (k : Rising b count bound low end i size rest) where
+  -- where the next entry is x, and t is behind it
+  module _ (x t : List ℕ) (parts : rest ≡ x ++ t) (long : length x ≡ size) (start : ℕ) (is : start ≡ little 4 x) where
+    at_start : shapes_fault count b ≡ ranged_fault i low end bound (start ∷ map (little 4) (entries 8 (length t / 8) t))
+    at_start =
+        let g : Begins 8 rest x t = record { parts = parts; wide = long ∙ k.wide } in
+        let n : length rest / 8 ≡ suc (length t / 8) = omega (arith, ap length parts, length-append x t, g.wide) in
+        k.left
+        ∙ ap (λ (l : List (List ℕ)). ranged_fault i low end bound (map (little 4) l)) (entries_taken g n)
+        ∙ ap (λ (s : ℕ). ranged_fault i low end bound (s ∷ map (little 4) (entries 8 (length t / 8) t))) (number_in g 4 0 (omega arith) ∙ sym is)
 
-    pub rising_high : before < x → bound ≤ x → E.Wrong i ≡ entries_of (shapes_fault count b)
-    unfolding later_fault
-    rising_high f g = sym (ap entries_of here ∙ rw (← is, lt-ltb before x f, le-ltb x bound g))
+    pub rising_fault : {j : ℕ} → j ≡ i → false ≡ (leb low start && ltb start end) → Some j ≡ shapes_fault count b
+    unfolding ranged_fault
+    rising_fault at e = sym (at_start ∙ rw (← e, at))
 
-    pub rising_next : before < x → x < bound → Rising b count n bound (i + 1) x
-    unfolding later_fault
-    rising_next f g =
-        let step : 8 * i + 8 ≡ 8 * (i + 1) = omega arith in
-        record { number = k.number; limit = k.limit; rest = here ∙ rw (← is, lt-ltb before x f, lt-ltb x bound g, step) }
+    pub rising_next : {j size' : ℕ} → j ≡ i + 1 → size' ≡ size → bound < 4294967296 → true ≡ (leb low start && ltb start end)
+        → Rising b count bound (start + 1) bound j size' t
+    unfolding ranged_fault
+    rising_next at same h e =
+        record {
+          wide = same ∙ k.wide;
+          small = h;
+          left = at_start ∙ rw (← e, at) (ranged_later (i + 1) start bound (map (little 4) (entries 8 (length t / 8) t)));
+        }
 
-  pub rising_end : n ≤ i → E.Sound ≡ entries_of (shapes_fault count b)
-  unfolding later_fault
-  rising_end h = sym (ap entries_of (k.rest ∙ ap (λ (l : List (List ℕ)). later_fault i before bound (map (little 4) l)) (entries_end 8 n i b h)))
+  -- the range behind a start in it is one of 32 bits too
+  pub rising_fits : (start : ℕ) → true ≡ (leb low start && ltb start end) → start + 1 < 4294967296
+  rising_fits start e = omega (arith, k.small, ltb-true start end (second (leb low start) (ltb start end) e))
+
+  pub rising_end : length rest < size → None ≡ shapes_fault count b
+  unfolding ranged_fault
+  rising_end h =
+      let n : length rest / 8 ≡ 0 = omega (arith, k.wide) in
+      sym (k.left ∙ ap (λ (l : List (List ℕ)). ranged_fault i low end bound (map (little 4) l)) (entries_none 8 rest n))
 
 -- ---- marks
 
-pub record Marking (b : List ℕ) (count n i : ℕ) : Type 0 where
-  pub number : n ≡ length b / 12
-  pub rest : marks_fault count b ≡ mark_fault i count (entries 12 (n - i) (drop (12 * i) b))
+-- the same of marks
+pub record Marking (b : List ℕ) (count i size : ℕ) (rest : List ℕ) : Type 0 where
+  pub wide : size ≡ 12
+  pub left : marks_fault count b ≡ mark_fault i count (entries 12 (length rest / 12) rest)
 
-pub marking_start : (b : List ℕ) (count : ℕ) → Marking b count (length b / 12) 0
+pub marking_start : (b : List ℕ) (count i size : ℕ) (rest : List ℕ) → i ≡ 0 → size ≡ 12 → rest ≡ b → Marking b count i size rest
 unfolding marks_fault
-marking_start b count = record { number = refl; rest = rw sub-zero }
+marking_start b count i size rest at wide all = record { wide = wide; left = rw (at, all) }
 
-module _ {b : List ℕ} {count n i : ℕ} (k : Marking b count n i) where
-  module _ (x y : ℕ) (h : i < n) (is : x ≡ little 4 (drop (12 * i) b)) (end_is : y ≡ little 4 (drop (12 * i + 4) b)) where
-    at_mark : marks_fault count b ≡ mark_fault i count (drop (12 * i) b ∷ entries 12 (n - (i + 1)) (drop (12 * i + 12) b))
-    at_mark = k.rest ∙ ap (mark_fault i count) (entries_next 12 n i b h)
+module _ {b : List ℕ} {count i size : ℕ} {rest : List ℕ} (k : Marking b count i size rest) where
+  module _ (x t : List ℕ) (parts : rest ≡ x ++ t) (long : length x ≡ size) (start end : ℕ) (is : start ≡ little 4 x)
+      (end_is : end ≡ little 4 (drop 4 x)) where
+    g : Begins 12 rest x t
+    g = record { parts = parts; wide = long ∙ k.wide }
 
-    second : y ≡ little 4 (drop 4 (drop (12 * i) b))
-    second = end_is ∙ ap (little 4) (sym (drop-drop 4 (12 * i) b))
-
-    pub marking_turned : y < x → E.Wrong i ≡ entries_of (marks_fault count b)
+    at_mark : marks_fault count b ≡ cond (leb start end && leb end count) (mark_fault (i + 1) count (entries 12 (length t / 12) t)) (Some i)
     unfolding mark_fault
-    marking_turned g = sym (ap entries_of at_mark ∙ rw (← is, ← second, lt-leb x y g))
+    at_mark =
+        let n : length rest / 12 ≡ suc (length t / 12) = omega (arith, ap length parts, length-append x t, g.wide) in
+        let from : little 4 rest ≡ start = number_in g 4 0 (omega arith) ∙ sym is in
+        let to : little 4 (drop 4 rest) ≡ end = number_in g 4 4 (omega arith) ∙ sym end_is in
+        k.left ∙ ap (mark_fault i count) (entries_taken g n) ∙ rw (from, to)
 
-    pub marking_beyond : x ≤ y → count < y → E.Wrong i ≡ entries_of (marks_fault count b)
-    unfolding mark_fault
-    marking_beyond f g = sym (ap entries_of at_mark ∙ rw (← is, ← second, le-leb x y f, lt-leb y count g))
+    pub marking_fault : {j : ℕ} → j ≡ i → (end < start) ⊎ ((start ≤ end) × (count < end)) → Some j ≡ marks_fault count b
+    marking_fault at (inl h) = sym (at_mark ∙ rw (lt-leb start end h, at))
+    marking_fault at (inr h) = sym (at_mark ∙ rw (le-leb start end h.0, lt-leb end count h.1, at))
 
-    pub marking_next : x ≤ y → y ≤ count → Marking b count n (i + 1)
-    unfolding mark_fault
-    marking_next f g =
-        let step : 12 * i + 12 ≡ 12 * (i + 1) = omega arith in
-        record { number = k.number; rest = at_mark ∙ rw (← is, ← second, le-leb x y f, le-leb y count g, step) }
+    pub marking_next : {j size' : ℕ} → j ≡ i + 1 → size' ≡ size → start ≤ end → end ≤ count → Marking b count j size' t
+    marking_next at same f h = record { wide = same ∙ k.wide; left = at_mark ∙ rw (le-leb start end f, le-leb end count h, at) }
 
-  pub marking_end : n ≤ i → E.Sound ≡ entries_of (marks_fault count b)
+  pub marking_end : length rest < size → None ≡ marks_fault count b
   unfolding mark_fault
-  marking_end h = sym (ap entries_of (k.rest ∙ ap (mark_fault i count) (entries_end 12 n i b h)))
+  marking_end h = let n : length rest / 12 ≡ 0 = omega (arith, k.wide) in sym (k.left ∙ ap (mark_fault i count) (entries_none 12 rest n))
 
 -- ---- the entry at fault is one of the body's
 
 -- an index, if there is one, below n
 abbrev pub Under : ℕ → Option ℕ → Type 0
-Under n none = Unit {0}
-Under n (some i) = i < n
+Under n None = Unit {0}
+Under n (Some i) = i < n
 
 -- the first at fault of an entry and those behind it
-under_next : (t : Bool) (i n : ℕ) (rest : Option ℕ) → Under (i + 1 + n) rest → Under (i + suc n) (cond t rest (some i))
-under_next true i n none h = tt
-under_next true i n (some j) h = omega arith
+under_next : (t : Bool) (i n : ℕ) (rest : Option ℕ) → Under (i + 1 + n) rest → Under (i + suc n) (cond t rest (Some i))
+under_next true i n None h = tt
+under_next true i n (Some j) h = omega arith
 under_next false i n rest h = omega arith
 
 later_under : (i before bound : ℕ) (ss : List ℕ) → Under (i + length ss) (later_fault i before bound ss)

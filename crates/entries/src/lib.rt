@@ -1,72 +1,40 @@
 // The entries of character shapes and of marks.
 #![tactic(auto)]
 
-ghost use Rattle.std.specs.Prelude.{◌≡◌, max};
-ghost use Rattle.entries.specs.Entries.{shapes_fault, marks_fault, entries_of};
+ghost use Rattle.std.specs.Prelude.{◌≡◌};
+ghost use Rattle.entries.specs.Entries.{shapes_fault, marks_fault};
 
-use numbers::number32;
-
-// Whether the entries keep their rule, or the first that does not.
-#[derive(Clone, Copy)]
-pub enum Entries {
-    Sound,
-    Wrong(usize),
-}
-
-fn at_least_one(count: u32) -> u32
-    ensures { result ≡ max 1 count }
-{
-    if count == 0 { 1 } else { count }
-}
+use numbers::little;
 
 // The starts of character shapes, 8 bytes each.
-pub fn judge_shapes(b: &[u8], count: u32) -> Entries
-    ensures { result ≡ entries_of (shapes_fault count b.now) }
+#[tactic(auto, using(crate::proofs::EntryLaws::rising_start, crate::proofs::EntryLaws::rising_fits, crate::proofs::EntryLaws::rising_end))]
+pub fn judge_shapes(b: &[u8], count: u32) -> Option<usize>
+    ensures { result ≡ shapes_fault count b.now }
 {
-    let n = b.len() / 8;
-    if n == 0 {
-        return Entries::Sound;
-    }
-    let first = number32(b);
-    if first != 0 {
-        return Entries::Wrong(0);
-    }
-    let bound = at_least_one(count);
-    let mut before = first;
-    let mut i: usize = 1;
-    while i < n {
-        let at = 8 * i;
-        let start = number32(&b[at..]);
-        if start <= before {
-            return Entries::Wrong(i);
+    let bound = count.max(1);
+    // Where the next start may be: the first is 0.
+    let mut starts = 0..1;
+    for (i, entry) in b.chunks_exact(8).enumerate() {
+        let start = little::<4>(entry);
+        if !starts.contains(&start) {
+            return Some(i);
         }
-        if bound <= start {
-            return Entries::Wrong(i);
-        }
-        before = start;
-        i = i + 1;
+        starts = start + 1..bound;
     }
-    Entries::Sound
+    None
 }
 
 // Marks, 12 bytes each.
-pub fn judge_marks(b: &[u8], count: u32) -> Entries
-    ensures { result ≡ entries_of (marks_fault count b.now) }
+#[tactic(auto, using(crate::proofs::EntryLaws::marking_start, crate::proofs::EntryLaws::marking_end))]
+pub fn judge_marks(b: &[u8], count: u32) -> Option<usize>
+    ensures { result ≡ marks_fault count b.now }
 {
-    let n = b.len() / 12;
-    let mut i: usize = 0;
-    while i < n {
-        let at = 12 * i;
-        let to = at + 4;
-        let start = number32(&b[at..]);
-        let end = number32(&b[to..]);
-        if end < start {
-            return Entries::Wrong(i);
+    for (i, entry) in b.chunks_exact(12).enumerate() {
+        let start = little::<4>(entry);
+        let end = little::<4>(&entry[4..]);
+        if end < start || count < end {
+            return Some(i);
         }
-        if count < end {
-            return Entries::Wrong(i);
-        }
-        i = i + 1;
     }
-    Entries::Sound
+    None
 }

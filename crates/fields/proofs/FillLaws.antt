@@ -1,4 +1,5 @@
 -- The laws of fill: who may be filled, what its sheet comes to, and the call over a stream. Assumes nothing.
+use Rattle.std.specs.Prelude.{Err, Ok}
 use Prim.Native.Nat.{ℕ, ◌≤◌, ◌<◌, min}
 use native.Mathlib.Omega.{arith}
 use native.Mathlib.Nat.{zero-add}
@@ -8,15 +9,12 @@ use mathlib.Core.List.{List, [], ◌∷◌}
 use lib.ListN.{length, drop}
 use lib.Seq.{sets-eq}
 use lib.Dec.{eqb}
-use borrow.Author.Tests.{eq-eqb, ne_eqb}
 use Rattle.numbers.specs.Little.{Bytes}
 use Rattle.records.specs.Records.{Rec, limit}
 use Rattle.records.specs.Table.{written}
-use Rattle.records.specs.Answers.{refused_at}
+use Rattle.records.specs.Answers.{refused_at, Answer}
 use Rattle.records.specs.declared.fault.Fault.TheVariants as F
 use Rattle.records.specs.declared.fault.Refusal.{Refusal}
-use Rattle.records.specs.declared.fault.Answer.{Answer}
-use Rattle.records.specs.declared.fault.Answer.TheVariants as A
 use Rattle.paragraph.specs.View.{view}
 use Rattle.paragraph.specs.Stream.{records_in}
 use Rattle.section.specs.Section.{check_answer}
@@ -31,11 +29,9 @@ use Rattle.search.specs.Searching.{told, met_with}
 use Rattle.search.specs.declared.seek.Met.{Met}
 use Rattle.search.specs.declared.seek.Met.TheVariants as M
 use Rattle.records.specs.Reading.{offset}
-use Rattle.fields.specs.Outcomes.{refusal, plain_field, unmarked_field, fillable_field, leaves, hit_sheet}
+use Rattle.fields.specs.Outcomes.{refusal, plain_field, unmarked_field, fillable_field, leaves, hit_sheet, Searched}
 use Rattle.search.specs.Accepted.{Searchable}
 use Rattle.search.specs.declared.seek.Hit.{Hit}
-use Rattle.fields.specs.declared.outcome.Searched.{Searched}
-use Rattle.fields.specs.declared.outcome.Searched.TheVariants as So
 use Rattle.search.proofs.AcceptLaws.{sectioned}
 use Rattle.fields.proofs.LocateLaws.{searched_of, searched_cond, field_met, only_one, here_is}
 use Rattle.writing.proofs.CallLaws.{sheet_of_is}
@@ -43,29 +39,15 @@ use Rattle.filling.proofs.OrderLaws.{value_right, fillable_wrong, fillable-right
 
 -- ---- who may be filled
 
--- exits of the judgement
+-- a value that is wrong, and one that is not
 module _ (value : List ℕ) (m : Met) where
-  pub exit_wrong : value_wrong value ≡ true → refusal F.ValueWrong (offset 0) ≡ fillable_field value m
+  exit_wrong : value_wrong value ≡ true → refusal F.ValueWrong (offset 0) ≡ fillable_field value m
   unfolding fillable_field
   exit_wrong e = sym (rw e refl)
 
-  module _ (right : value_wrong value ≡ false) {x : Searched} (is : x ≡ plain_field m) where
-    unmarked-is : unmarked_field x ≡ fillable_field value m
-    unfolding fillable_field
-    unmarked-is = ap unmarked_field is ∙ sym (rw right refl)
-
-    pub exit_refused : (r : Refusal) → x ≡ So.Refused r → So.Refused r ≡ fillable_field value m
-    unfolding unmarked_field
-    exit_refused r e = ap unmarked_field (sym e) ∙ unmarked-is
-
-    module _ (h : Hit) (e : x ≡ So.One h) where
-      pub exit_one : h.marks ≡ 0 → So.One h ≡ fillable_field value m
-      unfolding unmarked_field
-      exit_one k = sym (rw (eq-eqb h.marks 0 k) refl) ∙ ap unmarked_field (sym e) ∙ unmarked-is
-
-      pub exit_marked : (h.marks ≡ 0 → ⊥) → refusal F.MarksInParagraph h.header ≡ fillable_field value m
-      unfolding unmarked_field
-      exit_marked k = sym (rw (ne_eqb h.marks 0 k) refl) ∙ ap unmarked_field (sym e) ∙ unmarked-is
+  exit_right : value_wrong value ≡ false → unmarked_field (plain_field m) ≡ fillable_field value m
+  unfolding fillable_field
+  exit_right e = sym (rw e refl)
 
 -- which is that of a search
 unmarked_searched : (o : Outcome) → unmarked_field (searched_of o) ≡ searched_of (unmarked o)
@@ -81,7 +63,7 @@ fillable_met id value rs {m} e = go (value_wrong value) refl
     go : (b : Bool) → value_wrong value ≡ b → fillable_field value m ≡ searched_of (fillable id value rs)
     go true q = sym (exit_wrong value m q) ∙ sym (ap searched_of (fillable_wrong id value rs q))
     go false q =
-        sym (unmarked-is value m q refl) ∙ ap unmarked_field (field_met id rs e) ∙ unmarked_searched (search id rs) ∙ sym (ap searched_of (fillable-right id value rs q))
+        sym (exit_right value m q) ∙ ap unmarked_field (field_met id rs e) ∙ unmarked_searched (search id rs) ∙ sym (ap searched_of (fillable-right id value rs q))
 
 -- ---- a sheet of the bytes bs, measured as n, for the buffer out
 
@@ -94,10 +76,10 @@ module _ (bs out : List ℕ) (n : ℕ) (is : n ≡ min largest (length bs)) wher
   sheet_roomless h k = (sym (fits_room (length bs) (length out) (omega arith) (omega arith)), refl)
 
   pub sheet-put : (next : ℕ) (after : List ℕ) → n ≤ limit → n ≤ length out → Puts out 0 bs next after
-      → (A.Accepted n ≡ fits (length bs) (length out)) × (after ≡ written (leaves (A.Accepted n) bs) out)
+      → (Ok n ≡ fits (length bs) (length out)) × (after ≡ written (leaves (Ok n) bs) out)
   sheet-put next after h k p =
       let e : n ≡ length bs = omega arith in (
-        ap A.Accepted e ∙ sym (fits_all (length bs) (length out) (omega arith) (omega arith)),
+        ap Ok e ∙ sym (fits_all (length bs) (length out) (omega arith) (omega arith)),
         p.after_is ∙ sets-eq bs out 0 (omega arith) ∙ simp zero-add,
       )
 
@@ -119,18 +101,18 @@ abbrev Outcomes : ℕ → List ℕ → List Rec → List ℕ → Answer → List
 Outcomes id value rs out r after = (r ≡ fill_answer id value rs (length out)) × (after ≡ written (fill_bytes id value rs (length out)) out)
 
 module _ (id : ℕ) (value : List ℕ) (rs : List Rec) (out : List ℕ) (x : Searched) (is : x ≡ searched_of (fillable id value rs)) where
-  pub fill_refused : (r : Refusal) → x ≡ So.Refused r → Outcomes id value rs out (A.Refused r) out
+  pub fill_refused : (r : Refusal) → x ≡ Err r → Outcomes id value rs out (Err r) out
   unfolding fill_answer fill_bytes
   fill_refused r e = go (fillable id value rs) refl
     where
-      go : (o : Outcome) → fillable id value rs ≡ o → Outcomes id value rs out (A.Refused r) out
+      go : (o : Outcome) → fillable id value rs ≡ o → Outcomes id value rs out (Err r) out
       go (one h) q = absurd (let z : ◌≡◌ {A = ℕ} 0 1 = cc in omega arith)
       go (refused f p) q =
           let same : record { fault = f; place = record { 0 = p } } ≡ r = cc in
-          (sym (rw (q, fill_answer) (ap A.Refused same)), rw (q, fill_bytes) refl)
+          (sym (rw (q, fill_answer) (ap Err same)), rw (q, fill_bytes) refl)
 
   -- the hit whose sheet is the section's
-  pub fill_one : (h : Hit) (s : List ℕ) (r : Answer) (after : List ℕ) → x ≡ So.One h
+  pub fill_one : (h : Hit) (s : List ℕ) (r : Answer) (after : List ℕ) → x ≡ Ok h
       → ((k : Search.Hit) → fillable id value rs ≡ one k → hit_sheet (told k) value s ≡ sheet k value rs)
       → (r ≡ fits (length (hit_sheet h value s)) (length out)) × (after ≡ written (leaves r (hit_sheet h value s)) out)
       → Outcomes id value rs out r after
@@ -139,8 +121,8 @@ module _ (id : ℕ) (value : List ℕ) (rs : List Rec) (out : List ℕ) (x : Sea
     where
       left_by : (k : Search.Hit) → fillable id value rs ≡ one k → (a : Answer) → a ≡ fits (length (sheet k value rs)) (length out)
           → leaves a (sheet k value rs) ≡ fill_bytes id value rs (length out)
-      left_by k q (A.Accepted n) w = rw (q, fill_bytes, ← w) refl
-      left_by k q (A.Refused z) w = rw (q, fill_bytes, ← w) refl
+      left_by k q (Ok n) w = rw (q, fill_bytes, ← w) refl
+      left_by k q (Err z) w = rw (q, fill_bytes, ← w) refl
 
       go : (o : Outcome) → fillable id value rs ≡ o → Outcomes id value rs out r after
       go (one k) q =
@@ -190,17 +172,17 @@ hit_sheet_lem s id value a small bs k e =
 -- ---- the call over a stream
 
 module _ (s : List ℕ) (id : ℕ) (value out : List ℕ) (x : Answer) (is : x ≡ check_answer s) where
-  pub call_accepted : (n : ℕ) (r : Answer) (after : List ℕ) → Bytes s → x ≡ A.Accepted n → Outcomes id value (records_in s) out r after
+  pub call_accepted : (n : ℕ) (r : Answer) (after : List ℕ) → Bytes s → x ≡ Ok n → Outcomes id value (records_in s) out r after
       → Filled s id value out r after
   unfolding fill_of sheet_of
   call_accepted n r after bs e put =
       let g = sectioned s bs n (sym is ∙ e) in
-      let c : check_answer s ≡ A.Accepted n = sym is ∙ e in
+      let c : check_answer s ≡ Ok n = sym is ∙ e in
       record {
         answer = put.0 ∙ ap (λ (rs : List Rec). fill_answer id value rs (length out)) g.records ∙ sym (rw c refl);
         sheet = put.1 ∙ ap (λ (rs : List Rec). written (fill_bytes id value rs (length out)) out) g.records ∙ sym (rw (c, sheet_of) refl);
       }
 
-  pub call_refused : (r : Refusal) → x ≡ A.Refused r → Filled s id value out (A.Refused r) out
+  pub call_refused : (r : Refusal) → x ≡ Err r → Filled s id value out (Err r) out
   unfolding fill_of sheet_of
-  call_refused r e = let c : check_answer s ≡ A.Refused r = sym is ∙ e in record { answer = sym (rw c refl); sheet = sym (rw (c, sheet_of) refl) }
+  call_refused r e = let c : check_answer s ≡ Err r = sym is ∙ e in record { answer = sym (rw c refl); sheet = sym (rw (c, sheet_of) refl) }

@@ -1,4 +1,5 @@
 -- Where a hit stands: its paragraph in the stream, and what an edit of that paragraph makes of the stream. Assumes nothing.
+use Rattle.std.specs.Prelude.{Err, Ok}
 use Prim.Native.Nat.{ℕ, suc, ◌+◌, ◌-◌, ◌*◌, ◌≤◌, ◌<◌, min}
 use native.Mathlib.Omega.{arith}
 use native.Mathlib.Nat.{add-zero, add_assoc}
@@ -19,16 +20,12 @@ use Rattle.acceptance.specs.Keeps.{Keeps}
 use Rattle.paragraph.proofs.StreamLaws.{stood_of}
 use Rattle.filling.specs.Fields.{Field, fields, id_of, with_id}
 use Rattle.filling.specs.Search.{Hit, hit_of, hits, Outcome, one, refused, outcome, search}
-use Rattle.records.specs.declared.fault.Offset.{Offset}
 use Rattle.records.specs.declared.fault.Fault.TheVariants as F
 use Rattle.search.specs.Searching.{told, met_with}
 use Rattle.search.specs.Steps.{span_of}
-use Rattle.fields.specs.Outcomes.{refusal, plain_field}
-use Rattle.fields.specs.declared.outcome.Searched.{Searched}
-use Rattle.fields.specs.declared.outcome.Searched.TheVariants as So
+use Rattle.fields.specs.Outcomes.{refusal, plain_field, Searched}
 use Rattle.records.specs.declared.fault.Refusal.{Refusal}
 use Rattle.filling.specs.Filling.{text_answer}
-use Rattle.filling.specs.declared.TextAnswer.TheVariants as T
 use Rattle.text.specs.Units.{units}
 use Rattle.text.proofs.UnitLaws.{length-units}
 use Rattle.paragraph.specs.Rules.{bytes_in}
@@ -166,28 +163,9 @@ module _ (s : List ℕ) (bs : Bytes s) (id : ℕ) (h : Hit) (a : Searchable s) (
   pub here_is : Located s 0 0 (records_in s) h
   here_is = located s bs id 0 0 (records_in s) refl a.whole a.keep h (subst (Met-in h) (sym only) (inl refl))
 
--- by what was met
-module _ {m : Met} {r : Searched} where
-  pub plain_none : m ≡ M.Nothing → r ≡ refusal F.NoField (record { 0 = 0 }) → r ≡ plain_field m
-  unfolding plain_field
-  plain_none e q = q ∙ sym (ap plain_field e)
-
-  pub plain_two : {p : Offset} → m ≡ M.Twice p → r ≡ refusal F.FieldTwice p → r ≡ plain_field m
-  unfolding plain_field
-  plain_two e q = q ∙ sym (ap plain_field e)
-
-  module _ {h : told-hit.Hit} (e : m ≡ M.One h) where
-    pub plain_one : h.field.plain ≡ true → r ≡ So.One h → r ≡ plain_field m
-    unfolding plain_field
-    plain_one p q = q ∙ sym (ap plain_field e ∙ rw p refl)
-
-    pub plain_not : h.field.plain ≡ false → r ≡ refusal F.FieldNotPlain h.control → r ≡ plain_field m
-    unfolding plain_field
-    plain_not p q = q ∙ sym (ap plain_field e ∙ rw p refl)
-
 -- the search's outcome in the code's own types
 abbrev pub searched_of : Outcome → Searched
-searched_of (one h) = So.One (told h)
+searched_of (one h) = Ok (told h)
 searched_of (refused f p) = refusal f (record { 0 = p })
 
 pub searched_cond : (b : Bool) (x y : Outcome) → searched_of (cond b x y) ≡ cond b (searched_of x) (searched_of y)
@@ -239,33 +217,33 @@ module _ (s : List ℕ) (bs : Bytes s) (a : Searchable s) (id : ℕ) (h : Hit) (
       let us = units (bytes_in (child 67 (kids n l.rs))) in
       let ab = a_to_b us h.field l.among o.1 in
       let f = span_of (found_in n 67 0 go l.rs) in
-      let text : h.text ≡ f.from.0 = ap (λ (z : Hit). z.text) l.hit_is ∙ sym t.place_is in
+      let text : h.text ≡ f.place.0 = ap (λ (z : Hit). z.text) l.hit_is ∙ sym t.place_is in
       record {
         here = l;
         plain = o.1;
         a_b = ab.0;
         inside =
             omega
-            (arith, ab.1, text, ap length t.units_are, length-units (take f.len (drop f.from.0 s)), length-take f.len (drop f.from.0 s), t.inside);
+            (arith, ab.1, text, ap length t.units_are, length-units (take f.len (drop f.place.0 s)), length-take f.len (drop f.place.0 s), t.inside);
       }
 
 -- by what was searched
-pub searched_hit : (o : Outcome) (x : told-hit.Hit) → searched_of o ≡ So.One x → (h : Hit) × (o ≡ one h) × (told h ≡ x)
+pub searched_hit : (o : Outcome) (x : told-hit.Hit) → searched_of o ≡ Ok x → (h : Hit) × (o ≡ one h) × (told h ≡ x)
 searched_hit (one h) x e = (h, refl, cc)
 searched_hit (refused f p) x e = absurd (let z : ◌≡◌ {A = ℕ} 0 1 = cc in omega arith)
 
-pub searched_refused : (o : Outcome) (r : Refusal) → searched_of o ≡ So.Refused r → o ≡ refused r.fault r.place.0
+pub searched_refused : (o : Outcome) (r : Refusal) → searched_of o ≡ Err r → o ≡ refused r.fault r.place.0
 searched_refused (one h) r e = absurd (let z : ◌≡◌ {A = ℕ} 0 1 = cc in omega arith)
 searched_refused (refused f p) r e =
     let same : ◌≡◌ {A = Refusal} (record { fault = f; place = record { 0 = p } }) r = cc in
     ap (λ (z : Refusal). refused z.fault z.place.0) same
 
-pub text_refused : (id : ℕ) (rs : List Rec) (r : Refusal) → searched_of (search id rs) ≡ So.Refused r → T.Refused r ≡ text_answer id rs
+pub text_refused : (id : ℕ) (rs : List Rec) (r : Refusal) → searched_of (search id rs) ≡ Err r → Err r ≡ text_answer id rs
 unfolding text_answer
 text_refused id rs r e = sym (rw (searched_refused (search id rs) r e, text_answer))
 
 answer_one : (id : ℕ) (rs : List Rec) (h : Hit) → search id rs ≡ one h
-    → text_answer id rs ≡ T.At (record { 0 = h.text + 2 * h.field.a }) (2 * (h.field.b - h.field.a))
+    → text_answer id rs ≡ Ok (record { place = record { 0 = h.text + 2 * h.field.a }; len = 2 * (h.field.b - h.field.a) })
 unfolding text_answer
 answer_one id rs h e = rw (e, text_answer)
 
@@ -274,17 +252,17 @@ pub record Bounds (s : List ℕ) (x : told-hit.Hit) : Type 0 where
   pub a_b : x.field.a.0 ≤ x.field.b.0
   pub inside : x.text.0 + 2 * x.field.b.0 ≤ length s
 
-pub bounds : (s : List ℕ) (bs : Bytes s) (a : Searchable s) (id : ℕ) (x : told-hit.Hit) → searched_of (search id (records_in s)) ≡ So.One x → Bounds s x
+pub bounds : (s : List ℕ) (bs : Bytes s) (a : Searchable s) (id : ℕ) (x : told-hit.Hit) → searched_of (search id (records_in s)) ≡ Ok x → Bounds s x
 bounds s bs a id x e =
     let k = searched_hit (search id (records_in s)) x e in
     let o = only s bs a id k.0 k.1 in
     subst (Bounds s) k.2 (record { a_b = o.a_b; inside = o.inside })
 
 -- the place of its text, as the code finds it
-pub text_one : (s : List ℕ) (id : ℕ) (rs : List Rec) (x : told-hit.Hit) → Bounds s x → length s < 18446744073709551616 → searched_of (search id rs) ≡ So.One x
-    → T.At (unit_place x.text x.field.a) (2 * (x.field.b.0 - x.field.a.0)) ≡ text_answer id rs
+pub text_one : (s : List ℕ) (id : ℕ) (rs : List Rec) (x : told-hit.Hit) → Bounds s x → length s < 18446744073709551616 → searched_of (search id rs) ≡ Ok x
+    → Ok (record { place = unit_place x.text x.field.a; len = 2 * (x.field.b.0 - x.field.a.0) }) ≡ text_answer id rs
 text_one s id rs x d h e =
     let k = searched_hit (search id rs) x e in
     let z : min 18446744073709551615 (x.text.0 + 2 * x.field.a.0) ≡ x.text.0 + 2 * x.field.a.0 = omega (arith, d.a_b, d.inside) in
-    ap (λ (i : ℕ). T.At (record { 0 = i }) (2 * (x.field.b.0 - x.field.a.0))) z
-    ∙ ap (λ (z : told-hit.Hit). T.At (record { 0 = z.text.0 + 2 * z.field.a.0 }) (2 * (z.field.b.0 - z.field.a.0))) (sym k.2) ∙ sym (answer_one id rs k.0 k.1)
+    ap (λ (i : ℕ). Ok (record { place = record { 0 = i }; len = 2 * (x.field.b.0 - x.field.a.0) })) z
+    ∙ ap (λ (z : told-hit.Hit). Ok (record { place = record { 0 = z.text.0 + 2 * z.field.a.0 }; len = 2 * (z.field.b.0 - z.field.a.0) })) (sym k.2) ∙ sym (answer_one id rs k.0 k.1)

@@ -1,4 +1,6 @@
 -- Every place and length that field text and fill answer is within the limit. Assumes nothing.
+use Rattle.std.specs.Prelude.{Err, Ok}
+use Rattle.records.specs.Answers.{Answer, place}
 use mathlib.Core.Path.{◌≡◌, refl, sym, ap, ◌∙◌, subst}
 use Prim.Native.Nat.{ℕ, ◌≤◌}
 use native.Mathlib.Omega.{arith}
@@ -7,15 +9,11 @@ use lib.ListN.{length}
 use Rattle.numbers.specs.Little.{Bytes}
 use Rattle.records.specs.Records.{Rec, limit, encode}
 use Rattle.records.specs.Reading.{read_all}
-use Rattle.records.specs.Answers.{place}
-use Rattle.records.specs.declared.fault.Answer.{Answer}
-use Rattle.records.specs.declared.fault.Answer.TheVariants as A
 use Rattle.paragraph.specs.Stream.{records_in}
 use Rattle.section.specs.Section.{check_answer}
 use Rattle.section.proofs.NearLaws.{check_near}
 use Rattle.filling.specs.Search.{Outcome, one, refused, search}
-use Rattle.filling.specs.Filling.{text_answer, text_place, text_length, fill_answer}
-use Rattle.filling.specs.declared.TextAnswer.{TextAnswer}
+use Rattle.filling.specs.Filling.{text_answer, text_place, text_length, fill_answer, TextAnswer}
 use Rattle.filling.proofs.NearLaws.{OutcomeNear, search_near, fill_near}
 use Rattle.orders.specs.Calls.{text_after_section, field_text_of, after_section, fill_of}
 use Rattle.search.proofs.AcceptLaws.{Sectioned, sectioned}
@@ -31,8 +29,8 @@ module _ (s : List ℕ) (bs : Bytes s) where
   fill_call_near id value room = by (check_answer s) refl
     where
       by : (a : Answer) → check_answer s ≡ a → place (after_section a (fill_answer id value (read_all s).recs room)) ≤ limit
-      by (A.Accepted n) e = fill_near id value (read_all s).recs room (stream_near s (sectioned s bs n e))
-      by (A.Refused r) e = subst (λ (a : Answer). place a ≤ limit) e (check_near s bs)
+      by (Ok n) e = fill_near id value (read_all s).recs room (stream_near s (sectioned s bs n e))
+      by (Err r) e = subst (λ (a : Answer). place a ≤ limit) e (check_near s bs)
 
   -- the place and the length
   abbrev TextNear : TextAnswer → Type 0
@@ -52,5 +50,5 @@ module _ (s : List ℕ) (bs : Bytes s) where
   text_call_near id = by (check_answer s) refl
     where
       by : (a : Answer) → check_answer s ≡ a → TextNear (text_after_section a (text_answer id (read_all s).recs))
-      by (A.Accepted n) e = let g = sectioned s bs n e in subst (λ (rs : List Rec). TextNear (text_answer id rs)) g.records (answer_near id g)
-      by (A.Refused r) e = (subst (λ (a : Answer). place a ≤ limit) e (check_near s bs), omega arith)
+      by (Ok n) e = let g = sectioned s bs n e in subst (λ (rs : List Rec). TextNear (text_answer id rs)) g.records (answer_near id g)
+      by (Err r) e = (subst (λ (a : Answer). place a ≤ limit) e (check_near s bs), omega arith)

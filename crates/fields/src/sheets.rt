@@ -5,11 +5,11 @@ ghost use Rattle.filling.specs.Filling.{fits};
 ghost use Rattle.orders.specs.Promise.{Filled};
 ghost use Rattle.fields.specs.Outcomes.{fillable_field, leaves, hit_sheet};
 
-use crate::outcome::{Searched, find_field, no_field};
+use crate::outcome::{Searched, find_field};
 use crate::value::value_wrong;
-use records::{Answer, Fault, Offset, refused};
-use search::{Hit, Met, SectionSearch, search_section};
-use writing::{measure, write};
+use records::{Answer, Fault, LIMIT, Offset, refused};
+use search::{Field, Hit, Met, search_section};
+use writing::{Spot, measure, write};
 
 // The field that may be filled: 20, then 21 to 23, then 24.
 #[tactic(auto, unfolding(crate::specs::Outcomes::fillable_field, crate::specs::Outcomes::unmarked_field))]
@@ -17,18 +17,13 @@ fn find_fillable(met: Met, value: &[u8]) -> Searched
     ensures { result ≡ fillable_field value.now met }
 {
     if value_wrong(value) {
-        return no_field(Fault::ValueWrong, Offset(0));
+        return refused(Fault::ValueWrong, Offset(0));
     }
-    match find_field(met) {
-        Searched::Refused(r) => Searched::Refused(r),
-        Searched::One(h) => {
-            if h.marks == 0 {
-                Searched::One(h)
-            } else {
-                no_field(Fault::MarksInParagraph, h.header)
-            }
-        }
+    let h = find_field(met)?;
+    if h.marks != 0 {
+        return refused(Fault::MarksInParagraph, h.header);
     }
+    Ok(h)
 }
 
 // The sheet measured, 25 and 26 judged, and the sheet written.
@@ -36,19 +31,17 @@ fn find_fillable(met: Met, value: &[u8]) -> Searched
 fn put_sheet(s: &[u8], h: Hit, value: &[u8], out: &mut [u8]) -> Answer
     ensures { (result ≡ fits (length (hit_sheet h value.now s.now)) (length out.old)) × (out.new ≡ written (leaves result (hit_sheet h value.now s.now)) out.old) }
 {
-    let field = h.field;
-    let header = h.header;
-    let a = field.a;
-    let b = field.b;
-    let n = measure(s, header, field.ordinal, a, b, value);
-    if 16777216 < n {
+    let Field { ordinal, a, b, .. } = h.field;
+    let spot = Spot { ordinal, a, b };
+    let n = measure(s, h.header, spot, value);
+    if LIMIT < n {
         return refused(Fault::SheetTooLong, Offset(0));
     }
     if out.len() < n {
         return refused(Fault::BufferTooShort, Offset(0));
     }
-    write(out, s, header, field.ordinal, a, b, value);
-    Answer::Accepted(n)
+    write(out, s, h.header, spot, value);
+    Ok(n)
 }
 
 // Fills the field with the id: the section's numbers without 7, then 20 to 26, else the length of the sheet, which stands at the front
@@ -56,11 +49,7 @@ fn put_sheet(s: &[u8], h: Hit, value: &[u8], out: &mut [u8]) -> Answer
 pub fn fill(s: &[u8], id: u32, value: &[u8], out: &mut [u8]) -> Answer
     ensures { Filled s.now id value.now out.old result out.new }
 {
-    match search_section(s, id) {
-        SectionSearch::Refused(r) => Answer::Refused(r),
-        SectionSearch::Met(met) => match find_fillable(met, value) {
-            Searched::Refused(r) => Answer::Refused(r),
-            Searched::One(h) => put_sheet(s, h, value, out),
-        },
-    }
+    let met = search_section(s, id)?;
+    let h = find_fillable(met, value)?;
+    put_sheet(s, h, value, out)
 }

@@ -10,21 +10,13 @@ use text::{Position, Step};
 fn any_control(value: &[u8]) -> bool
     ensures { result ≡ any_below 32 (units value.now) }
 {
-    if let Step::End = next_control(value, Position(0)) {
-        return false;
-    }
-    true
+    !matches!(next_control(value, Position(0)), Step::End)
 }
 
 // An odd number of bytes, over 1,024 units, or a unit below 32.
+#[tactic(auto, unfolding(filling::specs::Filling::value_wrong))]
 pub fn value_wrong(value: &[u8]) -> bool
     ensures { result ≡ value_wrong value.now }
 {
-    if value.len() % 2 == 1 {
-        return true;
-    }
-    if 1024 < value.len() / 2 {
-        return true;
-    }
-    any_control(value)
+    value.len() % 2 == 1 || 1024 < value.len() / 2 || any_control(value)
 }

@@ -1,13 +1,13 @@
 -- An accepted section: what it gives of its paragraphs; a fill of it is accepted. Assumes nothing.
+use Rattle.std.specs.Prelude.{None, Option, Some, slice_get}
 use mathlib.Core.Path.{◌≡◌, refl, sym, ap, ◌∙◌}
 use mathlib.Core.Logic.{◌⊎◌, inl, inr}
 use Prim.Native.Nat.{ℕ, zero, suc, ◌+◌, ◌*◌, ◌/◌, ◌%◌, ◌≤◌, ◌<◌}
 use native.Mathlib.Omega.{arith}
 use mathlib.Core.Bool.{Bool, true, false, cond}
-use mathlib.Core.Option.{Option, none, some}
 use mathlib.Core.List.{List, [], ◌∷◌, ◌++◌}
 use lib.Dec.{eqb}
-use lib.ListN.{length, take, drop, get_elem?, length-append}
+use lib.ListN.{length, take, drop, length-append}
 use borrow.Author.Tests.{eq-eqb, ne_eqb}
 use Rattle.numbers.specs.Little.{little, bytes_of, Bytes}
 use Rattle.numbers.proofs.LittleLaws.{bytes_drop}
@@ -42,7 +42,7 @@ use Rattle.filling.proofs.KeepLaws.{Fillable, fill_keeps, written, text_there, s
 
 module _ (Q : List Rec → Type 0) (P : View → Type 0) (next : (r : Rec) (rs : List Rec) → Q (r ∷ rs) → Q rs)
     (at : (r : Rec) (rs : List Rec) → Q (r ∷ rs) → r.tag ≡ 66 → P (view r rs)) where
-  each_view : (i : ℕ) (rs : List Rec) (v : View) → Q rs → get_elem? (views rs) i ≡ some v → P v
+  each_view : (i : ℕ) (rs : List Rec) (v : View) → Q rs → slice_get (views rs) i ≡ Some v → P v
   unfolding views
   each_view i [] v a e = absurd (let z : ◌≡◌ {A = ℕ} 0 1 = cc in omega arith)
   each_view i (r ∷ rs) v a e = elim (eq_or r.tag 66) [
@@ -50,7 +50,7 @@ module _ (Q : List Rec → Type 0) (P : View → Type 0) (next : (r : Rec) (rs :
     | inr h ↦ each_view i rs v (next r rs a) (rw (ne_eqb r.tag 66 h) at e)
   ]
     where
-      here : (i : ℕ) → r.tag ≡ 66 → get_elem? (view r rs ∷ views rs) i ≡ some v → ((j : ℕ) → get_elem? (views rs) j ≡ some v → P v) → P v
+      here : (i : ℕ) → r.tag ≡ 66 → slice_get (view r rs ∷ views rs) i ≡ Some v → ((j : ℕ) → slice_get (views rs) j ≡ Some v → P v) → P v
       here zero h q on = let s : view r rs ≡ v = cc in rw (← s) (at r rs a h)
       here (suc i) h q on = on i q
 
@@ -65,12 +65,12 @@ module _ (P : List ℕ → Type 0) where
     | is_passed l e ↦ rw (kids_passed n r rs e) (all_kids n rs a.1)
   ]
 
-  pub all_view : (i : ℕ) (rs : List Rec) (v : View) → AllBodies P rs → get_elem? (views rs) i ≡ some v → P v.head × AllBodies P v.own
+  pub all_view : (i : ℕ) (rs : List Rec) (v : View) → AllBodies P rs → slice_get (views rs) i ≡ Some v → P v.head × AllBodies P v.own
   unfolding view
   all_view i rs v a e =
       each_view (AllBodies P) (λ u. P u.head × AllBodies P u.own) (λ r l x. x.1) (λ r l x h. (x.0, all_kids (suc r.level) l x.1)) i rs v a e
 
-  pub all_child : (t : ℕ) (k : List Rec) (b : List ℕ) → AllBodies P k → child t k ≡ some b → P b
+  pub all_child : (t : ℕ) (k : List Rec) (b : List ℕ) → AllBodies P k → child t k ≡ Some b → P b
   all_child t [] b a e = unfold child in absurd (let z : ◌≡◌ {A = ℕ} 0 1 = cc in omega arith)
   all_child t (r ∷ k) b a e = elim (eq_or r.tag t) [
     | inl h ↦ (let q : r.body ≡ b = (let x = child_here t r k h in cc) in rw (← q) a.0)
@@ -98,17 +98,17 @@ bodies_fit rs h = bodies rs (all_short limit rs h)
 
 -- ---- one record of each tag
 
-pub view-once : (i : ℕ) (rs : List Rec) (v : View) → Each rs → get_elem? (views rs) i ≡ some v → Once v.own
+pub view-once : (i : ℕ) (rs : List Rec) (v : View) → Each rs → slice_get (views rs) i ≡ Some v → Once v.own
 unfolding view
 view-once i rs v a e = each_view Each (λ u. Once u.own) (λ r l x. x.1) (λ r l x h. x.0.paragraph h) i rs v a e
 
-lacks-child : (t : ℕ) (k : List Rec) → Lacks t k → child t k ≡ none
+lacks-child : (t : ℕ) (k : List Rec) → Lacks t k → child t k ≡ None
 lacks-child t [] l = unfold child in refl
 lacks-child t (r ∷ k) l = child_other t r k l.0 ∙ lacks-child t k l.1
 
 -- what holds of the child that is found holds of each with its tag
-fine_all : (n : ℕ) (k : List Rec) → Once k → ((b : List ℕ) → child 67 k ≡ some b → length b ≡ 2 * n)
-    → ((b : List ℕ) → child 68 k ≡ some b → StartsFrom 0 1 n (shapes_in b)) → ((b : List ℕ) → child 68 k ≡ some b → Bytes b) → AllFine n k
+fine_all : (n : ℕ) (k : List Rec) → Once k → ((b : List ℕ) → child 67 k ≡ Some b → length b ≡ 2 * n)
+    → ((b : List ℕ) → child 68 k ≡ Some b → StartsFrom 0 1 n (shapes_in b)) → ((b : List ℕ) → child 68 k ≡ Some b → Bytes b) → AllFine n k
 fine_all n [] o x y z = tt
 fine_all n (r ∷ k) o x y z = (
   record {
@@ -119,7 +119,7 @@ fine_all n (r ∷ k) o x y z = (
   fine_all n k o.1 (λ b e. x b (rest 67 b (omega arith) e)) (λ b e. y b (rest 68 b (omega arith) e)) (λ b e. z b (rest 68 b (omega arith) e)),
 )
   where
-    rest : (t : ℕ) (b : List ℕ) → t ≤ 70 → child t k ≡ some b → child t (r ∷ k) ≡ some b
+    rest : (t : ℕ) (b : List ℕ) → t ≤ 70 → child t k ≡ Some b → child t (r ∷ k) ≡ Some b
     rest t b h e = elim (eq_or r.tag t) [
       | inl q ↦ (let l : Lacks t k = rw q at (o.0 (omega arith)) in absurd (let d = lacks-child t k l in let z : ◌≡◌ {A = ℕ} 0 1 = cc in omega arith))
       | inr q ↦ child_other t r k q ∙ e
@@ -127,15 +127,15 @@ fine_all n (r ∷ k) o x y z = (
 
 -- ---- each paragraph keeps its rules where each view does
 
-views-keep : (rs : List Rec) → ((i : ℕ) (v : View) → get_elem? (views rs) i ≡ some v → Keeps v) → AllKeep rs
+views-keep : (rs : List Rec) → ((i : ℕ) (v : View) → slice_get (views rs) i ≡ Some v → Keeps v) → AllKeep rs
 unfolding views
 views-keep [] a = tt
 views-keep (r ∷ rs) a = elim (eq_or r.tag 66) [
   | inl h ↦
-      (let b : (i : ℕ) (v : View) → get_elem? (view r rs ∷ views rs) i ≡ some v → Keeps v = rw (eq-eqb r.tag 66 h) at a in
+      (let b : (i : ℕ) (v : View) → slice_get (view r rs ∷ views rs) i ≡ Some v → Keeps v = rw (eq-eqb r.tag 66 h) at a in
       ((λ q. b 0 (view r rs) refl), views-keep rs (λ i v q. b (suc i) v q)))
   | inr h ↦
-      (let b : (i : ℕ) (v : View) → get_elem? (views rs) i ≡ some v → Keeps v = rw (ne_eqb r.tag 66 h) at a in
+      (let b : (i : ℕ) (v : View) → slice_get (views rs) i ≡ Some v → Keeps v = rw (ne_eqb r.tag 66 h) at a in
       ((λ q. absurd (h q)), views-keep rs b))
 ]
 
@@ -148,7 +148,7 @@ module _ (rs : List Rec) (a : Accepted rs) where
   pub layout-leaves : Leaves rs
   layout-leaves = leaves rs follows.each
 
-  pub keeps : (i : ℕ) (v : View) → get_elem? (views rs) i ≡ some v → Keeps v
+  pub keeps : (i : ℕ) (v : View) → slice_get (views rs) i ≡ Some v → Keeps v
   keeps i v e = each_view AllKeep Keeps (λ r l x. x.1) (λ r l x h. x.0 h) i rs v a.section.obeys.paragraphs e
 
   pub ready : AllReady rs
@@ -217,7 +217,7 @@ bytes_head a b v k h x =
 
 -- a change that makes bytes of bytes
 abbrev ByteWise : Change → Type 0
-ByteWise f = (k : OwnedChild) (c : List ℕ) → Bytes k.body → f k ≡ some c → Bytes c
+ByteWise f = (k : OwnedChild) (c : List ℕ) → Bytes k.body → f k ≡ Some c → Bytes c
 
 bytes_body : (f : Field) (w : List ℕ) → Bytes w → ByteWise (new_body f w)
 bytes_body f w y k c x e = elim (kind k.tag) [
@@ -228,17 +228,17 @@ bytes_body f w y k c x e = elim (kind k.tag) [
   | other h₁ h₂ h₃ h₄ ↦ same _ (sym (body_other f w k.before k.tag k.body h₁ h₂ h₃ h₄) ∙ e) x
 ]
   where
-    same : (d : List ℕ) → ◌≡◌ {A = Option (List ℕ)} (some d) (some c) → Bytes d → Bytes c
+    same : (d : List ℕ) → ◌≡◌ {A = Option (List ℕ)} (Some d) (Some c) → Bytes d → Bytes c
     same d q h = let s : d ≡ c = cc in rw (← s) h
 
     either : (s : Bool) → Bytes (cond s (altered k.body) k.body)
     either true = bytes-altered k.body x
     either false = x
 
-bytes-put : (o : Option (List ℕ)) (r : Rec) (x : List Rec) → ((c : List ℕ) → o ≡ some c → Bytes c) → AllBodies Bytes x → AllBodies Bytes (put o r x)
+bytes-put : (o : Option (List ℕ)) (r : Rec) (x : List Rec) → ((c : List ℕ) → o ≡ Some c → Bytes c) → AllBodies Bytes x → AllBodies Bytes (put o r x)
 unfolding put with_body
-bytes-put none r x h a = a
-bytes-put (some b) r x h a = (h b refl, a)
+bytes-put None r x h a = a
+bytes-put (Some b) r x h a = (h b refl, a)
 
 bytes-behind : (n j : ℕ) (f : Change) (rs : List Rec) → ByteWise f → AllBodies Bytes rs → AllBodies Bytes (edit_behind n j f rs)
 bytes-behind n j f [] q a = rw (behind_nil n j f) tt
@@ -265,8 +265,8 @@ module _ (e : Edit) (q : ByteWise e.child) (hd : (v : View) → Bytes v.head →
 
 -- ---- a fill of an accepted section is accepted, where it is not too long
 
-modified-view : (n i : ℕ) (g : View → View) (vs : List View) (v : View) → get_elem? (modified n g vs) i ≡ some v
-    → (get_elem? vs i ≡ some v) ⊎ ((u : View) × (get_elem? vs n ≡ some u) × (v ≡ g u))
+modified-view : (n i : ℕ) (g : View → View) (vs : List View) (v : View) → slice_get (modified n g vs) i ≡ Some v
+    → (slice_get vs i ≡ Some v) ⊎ ((u : View) × (slice_get vs n ≡ Some u) × (v ≡ g u))
 unfolding modified
 modified-view n i g [] v e = absurd (let z : ◌≡◌ {A = ℕ} 0 1 = cc in omega arith)
 modified-view zero zero g (u ∷ vs) v e = inr (u, refl, cc)
@@ -284,7 +284,7 @@ marks_are v = refl
 
 module _ (id : ℕ) (w : List ℕ) (rs : List Rec) (h : Hit) (a : Accepted rs) (d : Done id w rs h) where
   -- the field that was found, in its paragraph
-  pub fillable_here : (v : View) → get_elem? (views rs) h.paragraph ≡ some v → Fillable v h.field w
+  pub fillable_here : (v : View) → slice_get (views rs) h.paragraph ≡ Some v → Fillable v h.field w
   fillable_here v e =
       let m = done_met id w rs h d in
       let q : m.v ≡ v = (let x = m.at in cc) in
@@ -317,13 +317,13 @@ module _ (id : ℕ) (w : List ℕ) (rs : List Rec) (h : Hit) (a : Accepted rs) (
           obeys = record {
             placed = placed (edit_at h.paragraph e rs) (followed_edit_at e takes h.paragraph rs (follows rs a)) levels;
             paragraphs = views-keep (edit_at h.paragraph e rs) (λ i v q. keeps_again i v (modified-view h.paragraph i (edit_view e) (views rs) v
-                (sym (ap (λ (vs : List View). get_elem? vs i) (views-edit_at e takes h.paragraph rs (layout-leaves rs a))) ∙ q)));
+                (sym (ap (λ (vs : List View). slice_get vs i) (views-edit_at e takes h.paragraph rs (layout-leaves rs a))) ∙ q)));
           };
         };
       }
     where
       keeps_again : (i : ℕ) (v : View)
-          → (get_elem? (views rs) i ≡ some v) ⊎ ((u : View) × (get_elem? (views rs) h.paragraph ≡ some u) × (v ≡ edit_view (filling h.field w) u))
+          → (slice_get (views rs) i ≡ Some v) ⊎ ((u : View) × (slice_get (views rs) h.paragraph ≡ Some u) × (v ≡ edit_view (filling h.field w) u))
           → Keeps v
       keeps_again i v (inl e) = keeps rs a i v e
       keeps_again i v (inr p) = rw p.2 (fill_keeps p.0 h.field w (fillable_here p.0 p.1))

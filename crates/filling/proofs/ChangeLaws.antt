@@ -1,13 +1,13 @@
 -- What a fill changes: the field's text is the value, and bit 15 is set. What it leaves: every other record. Assumes nothing.
+use Rattle.std.specs.Prelude.{None, Option, Some, slice_get}
 use mathlib.Core.Path.{◌≡◌, refl, sym, ap, ◌∙◌}
 use mathlib.Core.Logic.{inl, inr}
 use Prim.Native.Nat.{ℕ, zero, suc, ◌+◌, ◌*◌, ◌/◌, ◌%◌, ◌≤◌, ◌<◌}
 use native.Mathlib.Omega.{arith}
 use mathlib.Core.Bool.{true, false}
-use mathlib.Core.Option.{Option, none, some}
 use mathlib.Core.List.{List, [], ◌∷◌}
 use lib.Dec.{eqb}
-use lib.ListN.{length, get_or, take, drop, get_elem?}
+use lib.ListN.{length, get_or, take, drop}
 use lib.Seq.{take_at}
 use borrow.Author.Tests.{eq-eqb, ne_eqb}
 use Rattle.numbers.specs.Little.{little, bytes_of, span, Bytes}
@@ -97,8 +97,8 @@ module _ (n : ℕ) (r : Rec) (rs : List Rec) where
 
 besides_put : (n : ℕ) (o : Option (List ℕ)) (r : Rec) (x : List Rec) → side n r.tag r.level ≡ S.Owned → besides n (put o r x) ≡ besides n x
 unfolding put with_body
-besides_put n none r x e = refl
-besides_put n (some b) r x e = besides_owned n (with_body b r) x e
+besides_put n None r x e = refl
+besides_put n (Some b) r x e = besides_owned n (with_body b r) x e
 
 besides_behind : (n j : ℕ) (f : Change) (rs : List Rec) → besides n (edit_behind n j f rs) ≡ besides n rs
 besides_behind n j f [] = ap (besides n) (behind_nil n j f)
@@ -144,7 +144,7 @@ outside_kept (suc i) e (r ∷ rs) = elim (eq_or r.tag 66) [
 
 -- ---- a view that a fill leaves as it is
 
-pub unchanged_view : (n : ℕ) (g : View → View) (vs : List View) (v : View) → modified n g vs ≡ vs → get_elem? vs n ≡ some v → g v ≡ v
+pub unchanged_view : (n : ℕ) (g : View → View) (vs : List View) (v : View) → modified n g vs ≡ vs → slice_get vs n ≡ Some v → g v ≡ v
 unfolding modified
 unchanged_view n g [] v e q = absurd (let z : ◌≡◌ {A = ℕ} 0 1 = cc in omega arith)
 unchanged_view zero g (u ∷ vs) v e q = let s : u ≡ v = cc in rw (← s) (cc)

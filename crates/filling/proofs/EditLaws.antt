@@ -1,14 +1,13 @@
 -- The frame: an edit of one paragraph makes its view the edited one and leaves every other; edits of two paragraphs commute; two edits
 -- of one paragraph are one edit. Assumes nothing.
+use Rattle.std.specs.Prelude.{None, Option, Some, slice_get}
 use mathlib.Core.Path.{◌≡◌, refl, sym, ap, ◌∙◌}
 use mathlib.Core.Logic.{◌⊎◌, inl, inr}
 use Prim.Native.Nat.{ℕ, zero, suc, ◌≤◌, ◌<◌}
 use native.Mathlib.Omega.{arith}
 use mathlib.Core.Bool.{Bool, true, false, ◌&&◌}
-use mathlib.Core.Option.{Option, none, some}
 use mathlib.Core.List.{List, [], ◌∷◌}
 use lib.Dec.{leb, eqb}
-use lib.ListN.{get_elem?}
 use borrow.Author.Tests.{eqb-true, leb-true, le-ltb, eq-eqb, ne_eqb}
 use Rattle.records.specs.Records.{Rec}
 use Rattle.text.proofs.Cases.{lt_or, eq_or}
@@ -69,19 +68,19 @@ kids_stop m n (r ∷ rs) h s = rw (side_beyond m r.tag r.level (omega arith))
 module _ (n : ℕ) (r : Rec) (x : List Rec) where
   kids-put_passed : (o : Option (List ℕ)) → side n r.tag r.level ≡ S.Passed → kids n (put o r x) ≡ kids n x
   unfolding kids keep put with_body
-  kids-put_passed none e = refl
-  kids-put_passed (some b) e = rw e
+  kids-put_passed None e = refl
+  kids-put_passed (Some b) e = rw e
 
   kids-put_owned : (o : Option (List ℕ)) → side n r.tag r.level ≡ S.Owned → kids n (put o r x) ≡ put o r (kids n x)
   unfolding kids keep put with_body
-  kids-put_owned none e = refl
-  kids-put_owned (some b) e = rw e
+  kids-put_owned None e = refl
+  kids-put_owned (Some b) e = rw e
 
   -- a record that ends the run does so with a new body; where it goes, what comes after it has to
-  kids-put_beyond : (o : Option (List ℕ)) → side n r.tag r.level ≡ S.Beyond → (o ≡ none → kids n x ≡ []) → kids n (put o r x) ≡ []
+  kids-put_beyond : (o : Option (List ℕ)) → side n r.tag r.level ≡ S.Beyond → (o ≡ None → kids n x ≡ []) → kids n (put o r x) ≡ []
   unfolding kids keep put with_body
-  kids-put_beyond none e h = h refl
-  kids-put_beyond (some b) e h = rw e
+  kids-put_beyond None e h = h refl
+  kids-put_beyond (Some b) e h = rw e
 
 pub kids_above : (m n j : ℕ) (f : Change) (rs : List Rec) → m < n → kids m (edit_behind n j f rs) ≡ kids m rs
 unfolding kids keep edit_behind
@@ -120,8 +119,8 @@ kids-below m n j f (r ∷ rs) h q v = elim (which n r.tag r.level) [
 
 views-put : (o : Option (List ℕ)) (r : Rec) (x : List Rec) → 67 ≤ r.tag → views (put o r x) ≡ views x
 unfolding views put with_body
-views-put none r x h = refl
-views-put (some b) r x h = rw (ne_eqb r.tag 66 (λ e. omega arith))
+views-put None r x h = refl
+views-put (Some b) r x h = rw (ne_eqb r.tag 66 (λ e. omega arith))
 
 pub views-behind : (n j : ℕ) (f : Change) (rs : List Rec) → TakesLayout f → Leaves rs → views (edit_behind n j f rs) ≡ views rs
 unfolding views edit_behind view
@@ -196,16 +195,16 @@ behind_stop m n i g [] h s = refl
 behind_stop m n i g (r ∷ rs) h s = behind_beyond m i g r rs (side_beyond m r.tag r.level (omega arith))
 
 module _ (n j : ℕ) (f : Change) (r : Rec) (x : List Rec) where
-  behind-put_beyond : (o : Option (List ℕ)) → side n r.tag r.level ≡ S.Beyond → (o ≡ none → edit_behind n j f x ≡ x)
+  behind-put_beyond : (o : Option (List ℕ)) → side n r.tag r.level ≡ S.Beyond → (o ≡ None → edit_behind n j f x ≡ x)
       → edit_behind n j f (put o r x) ≡ put o r x
   unfolding put with_body
-  behind-put_beyond none e h = h refl
-  behind-put_beyond (some b) e h = behind_beyond n j f (with_body b r) x e
+  behind-put_beyond None e h = h refl
+  behind-put_beyond (Some b) e h = behind_beyond n j f (with_body b r) x e
 
   behind-put_passed : (o : Option (List ℕ)) → side n r.tag r.level ≡ S.Passed → edit_behind n j f (put o r x) ≡ put o r (edit_behind n j f x)
   unfolding put with_body
-  behind-put_passed none e = refl
-  behind-put_passed (some b) e = behind_passed n j f (with_body b r) x e
+  behind-put_passed None e = refl
+  behind-put_passed (Some b) e = behind_passed n j f (with_body b r) x e
 
 pub behind_nil : (n j : ℕ) (f : Change) → edit_behind n j f [] ≡ []
 unfolding edit_behind
@@ -268,8 +267,8 @@ view-edit_at i e r rs = rw (kids-edit_at (suc r.level) i e rs)
 
 at_put : (k : ℕ) (e : Edit) (o : Option (List ℕ)) (r : Rec) (x : List Rec) → (r.tag ≡ 66 → ⊥) → edit_at k e (put o r x) ≡ put o r (edit_at k e x)
 unfolding put with_body
-at_put k e none r x h = refl
-at_put k e (some b) r x h = at_past e (with_body b r) x k h
+at_put k e None r x h = refl
+at_put k e (Some b) r x h = at_past e (with_body b r) x k h
 
 module _ (e : Edit) (n : ℕ) (f : Change) (q : TakesLayout f) where
   behind_at : (j k : ℕ) (rs : List Rec) → Leaves rs → edit_behind n j f (edit_at k e rs) ≡ edit_at k e (edit_behind n j f rs)
@@ -357,15 +356,15 @@ bump_69 j t h = rw (ne_eqb t 71 (λ e. omega arith))
 
 put_body : (o : Option (List ℕ)) (b : List ℕ) (r : Rec) (x : List Rec) → put o (with_body b r) x ≡ put o r x
 unfolding put with_body
-put_body none b r x = refl
-put_body (some c) b r x = refl
+put_body None b r x = refl
+put_body (Some c) b r x = refl
 
 behind_then_put : (n j : ℕ) (f g : Change) (r : Rec) (x : List Rec) (o : Option (List ℕ)) → side n r.tag r.level ≡ S.Owned
-    → (o ≡ none → r.tag ≡ 69)
+    → (o ≡ None → r.tag ≡ 69)
     → edit_behind n j g (put o r x) ≡ put (then_body g (as_child j r) o) r (edit_behind n (count_control r.tag j) g x)
 unfolding put then_body with_body
-behind_then_put n j f g r x none s h = rw (bump_69 j r.tag (h refl))
-behind_then_put n j f g r x (some b) s h = behind_owned n j g (with_body b r) x s ∙ put_body (g (as_child j (with_body b r))) b r (edit_behind n (count_control r.tag j) g x)
+behind_then_put n j f g r x None s h = rw (bump_69 j r.tag (h refl))
+behind_then_put n j f g r x (Some b) s h = behind_owned n j g (with_body b r) x s ∙ put_body (g (as_child j (with_body b r))) b r (edit_behind n (count_control r.tag j) g x)
 
 behind_then : (n j : ℕ) (f g : Change) (rs : List Rec) → TakesLayout f → edit_behind n j g (edit_behind n j f rs) ≡ edit_behind n j (then_change f g) rs
 unfolding then_change
@@ -424,15 +423,15 @@ behind_cong n j f g (r ∷ rs) a = elim (which n r.tag r.level) [
 
 -- two changes that agree on the view of paragraph i
 abbrev pub AgreeAt : Edit → Edit → Option View → Type 0
-AgreeAt e d none = Unit {0}
-AgreeAt e d (some v) = (e.head v ≡ d.head v) × Agree 0 e.child d.child v.own
+AgreeAt e d None = Unit {0}
+AgreeAt e d (Some v) = (e.head v ≡ d.head v) × Agree 0 e.child d.child v.own
 
-pub at_cong : (i : ℕ) (e d : Edit) (rs : List Rec) → AgreeAt e d (get_elem? (views rs) i) → edit_at i e rs ≡ edit_at i d rs
+pub at_cong : (i : ℕ) (e d : Edit) (rs : List Rec) → AgreeAt e d (slice_get (views rs) i) → edit_at i e rs ≡ edit_at i d rs
 unfolding views view
 at_cong i e d [] a = cc (at_nil i e, at_nil i d)
 at_cong zero e d (r ∷ rs) a = elim (eq_or r.tag 66) [
   | inl t ↦
-      let b : AgreeAt e d (some (view r rs)) = rw (eq-eqb r.tag 66 t) at a in
+      let b : AgreeAt e d (Some (view r rs)) = rw (eq-eqb r.tag 66 t) at a in
       cc (at_view e r rs (view r rs) t refl, at_view d r rs (view r rs) t refl, b.0, behind_cong (suc r.level) 0 e.child d.child rs b.1)
   | inr t ↦ cc (at_past e r rs zero t, at_past d r rs zero t, at_cong zero e d rs (rw (ne_eqb r.tag 66 t) at a))
 ]

@@ -1,11 +1,11 @@
 -- The fields of a text: each plain one cuts it in three, they stand one behind another, and a fill of one moves the others with the text.
 -- Assumes nothing.
+use Rattle.std.specs.Prelude.{None, Option, Some}
 use mathlib.Core.Path.{◌≡◌, refl, sym, ap, ◌∙◌}
 use mathlib.Core.Logic.{◌⊎◌, inl, inr}
 use Prim.Native.Nat.{ℕ, zero, suc, ◌+◌, ◌-◌, ◌≤◌, ◌<◌}
 use native.Mathlib.Omega.{arith}
 use mathlib.Core.Bool.{true, cond}
-use mathlib.Core.Option.{Option, none, some}
 use mathlib.Core.List.{List, [], ◌∷◌, ◌++◌, map, append_assoc}
 use lib.Dec.{ltb, leb, eqb}
 use lib.ListN.{length, length-append}
@@ -47,7 +47,7 @@ module _ (t : Token) (ts : List Token) where
   unfolding next
   next_ordinary e = rw (e, next)
 
-  pub next-control : {c : Control} → t.what ≡ St.Control c → next (t ∷ ts) ≡ some (t.at, c.code)
+  pub next-control : {c : Control} → t.what ≡ St.Control c → next (t ∷ ts) ≡ Some (t.at, c.code)
   unfolding next
   next-control e = rw (e, next)
 
@@ -78,8 +78,8 @@ field_extended u c e h = elim (lt_or u 32) [
 
 pub field_ordinal : (n p : ℕ) (o : Option (ℕ × ℕ)) → (field_at n p o).ordinal ≡ n
 unfolding field_at
-field_ordinal n p none = refl
-field_ordinal n p (some x) = refl
+field_ordinal n p None = refl
+field_ordinal n p (Some x) = refl
 
 -- ---- lists of tokens
 
@@ -156,8 +156,8 @@ moved_field x y c f =
 
 module _ (x y c : ℕ) (h : x ≤ y) (h₀ : 0 < x) where
   moved_next : Option (ℕ × ℕ) → Option (ℕ × ℕ)
-  moved_next none = none
-  moved_next (some q) = some (cond (ltb q.0 y) q.0 (q.0 + c - (y - x)), q.1)
+  moved_next None = None
+  moved_next (Some q) = Some (cond (ltb q.0 y) q.0 (q.0 + c - (y - x)), q.1)
 
   -- a control at the front, from y on and below x
   passed : (t : Token) (ts rest : List Token) {k : Control} → y ≤ t.at → t.what ≡ St.Control k
@@ -194,15 +194,15 @@ module _ (x y c : ℕ) (h : x ≤ y) (h₀ : 0 < x) where
 
   field_low : (n p : ℕ) (o : Option (ℕ × ℕ)) → p + 8 ≤ x → field_at n p (moved_next o) ≡ moved_field x y c (field_at n p o)
   unfolding field_at moved_next moved_field
-  field_low n p none l = rw (le-leb (p + 8) x l, lt-ltb 0 y (omega arith))
-  field_low n p (some t) l = rw (le-leb (p + 8) x l)
+  field_low n p None l = rw (le-leb (p + 8) x l, lt-ltb 0 y (omega arith))
+  field_low n p (Some t) l = rw (le-leb (p + 8) x l)
 
   field_high : (n p : ℕ) (o : Option (ℕ × ℕ)) → y ≤ p → field_at n (p + c - (y - x)) (moved_next o) ≡ moved_field x y c (field_at n p o)
   unfolding field_at moved_next moved_field
-  field_high n p none l =
+  field_high n p None l =
       let q : p + c - (y - x) + 8 ≡ p + 8 + c - (y - x) = omega arith in
       rw (lt-leb (p + 8) x (omega arith), lt-ltb 0 y (omega arith), q)
-  field_high n p (some t) l =
+  field_high n p (Some t) l =
       let q : p + c - (y - x) + 8 ≡ p + 8 + c - (y - x) = omega arith in
       rw (lt-leb (p + 8) x (omega arith), q)
 
@@ -286,7 +286,7 @@ nil_of : (s : List ℕ) → length s ≡ 0 → s ≡ []
 nil_of [] h = refl
 nil_of (x ∷ s) h = absurd (omega arith)
 
-ahead : (p k : ℕ) (us : List ℕ) (q : ℕ × ℕ) → next (walk p k us) ≡ some q → Ahead p k us q
+ahead : (p k : ℕ) (us : List ℕ) (q : ℕ × ℕ) → next (walk p k us) ≡ Some q → Ahead p k us q
 unfolding walk
 ahead p k [] q e = unfold next in absurd (let z : ◌≡◌ {A = ℕ} 0 1 = cc in omega arith)
 ahead p zero (u ∷ us) q e = elim (lt_or u 32) [
@@ -305,7 +305,7 @@ ahead p zero (u ∷ us) q e = elim (lt_or u 32) [
       })
   | inr l ↦
       (let n = next_ordinary (record { at = p; what = what u }) (walk (p + 1) (width (what u) - 1) us) (what_ordinary u l) in
-      let m : next (walk (p + 1) 0 us) ≡ some q = rw (width_one u l) at (sym n ∙ e) in
+      let m : next (walk (p + 1) 0 us) ≡ Some q = rw (width_one u l) at (sym n ∙ e) in
       more l (ahead (p + 1) 0 us q m))
 ]
   where
@@ -342,8 +342,8 @@ Cuts us (f ∷ fs) = (f.plain ≡ true → Cut f us) × Cuts us fs
 cut_here : (n : ℕ) (pre us : List ℕ) (o : Option (ℕ × ℕ)) → left_over 0 pre ≡ 0 → next (walk (length pre + 1) 7 us) ≡ o
     → (field_at n (length pre) o).plain ≡ true → Cut (field_at n (length pre) o) (pre ++ (3 ∷ us))
 unfolding field_at left_over what class_of among
-cut_here n pre us none e q h = absurd (let z : ◌≡◌ {A = ℕ} 0 1 = cc in omega arith)
-cut_here n pre us (some t) e q h = go (ahead (length pre + 1) 7 us t q)
+cut_here n pre us None e q h = absurd (let z : ◌≡◌ {A = ℕ} 0 1 = cc in omega arith)
+cut_here n pre us (Some t) e q h = go (ahead (length pre + 1) 7 us t q)
   where
     left_field : (s : List ℕ) → length s ≡ 7 → left_over 0 (pre ++ (3 ∷ s)) ≡ 0
     left_field s l = left_append 0 pre (3 ∷ s) ∙ rw e (left_all 7 s l)
@@ -416,8 +416,8 @@ Ordered (f ∷ fs) = (f.plain ≡ true → From f.b fs) × Ordered fs
 
 field_a : (n p : ℕ) (o : Option (ℕ × ℕ)) → (field_at n p o).a ≡ p + 8
 unfolding field_at
-field_a n p none = refl
-field_a n p (some t) = refl
+field_a n p None = refl
+field_a n p (Some t) = refl
 
 from_high : (y n : ℕ) (ts : List Token) → High y ts → From y (fields_in n ts)
 from_high y n [] h = unfold fields_in in tt
@@ -428,7 +428,7 @@ from_high y n (t ∷ ts) h = elim (seen t.what) [
 ]
 
 -- behind the closing control
-from_next : (n p k : ℕ) (us : List ℕ) (q : ℕ × ℕ) → next (walk p k us) ≡ some q → q.1 ≡ 4 → From q.0 (fields_in n (walk p k us))
+from_next : (n p k : ℕ) (us : List ℕ) (q : ℕ × ℕ) → next (walk p k us) ≡ Some q → q.1 ≡ 4 → From q.0 (fields_in n (walk p k us))
 unfolding walk
 from_next n p k [] q e f = unfold fields_in in tt
 from_next n p (suc k) (u ∷ us) q e f = from_next n (p + 1) k us q e f
@@ -439,7 +439,7 @@ from_next n p zero (u ∷ us) q e f = elim (lt_or u 32) [
       here (ap (λ (x : ℕ × ℕ). x.0) d) (ap (λ (x : ℕ × ℕ). x.1) d) l)
   | inr l ↦
       (let m = next_ordinary (record { at = p; what = what u }) (walk (p + 1) (width (what u) - 1) us) (what_ordinary u l) in
-      let g : next (walk (p + 1) 0 us) ≡ some q = rw (width_one u l) at (sym m ∙ e) in
+      let g : next (walk (p + 1) 0 us) ≡ Some q = rw (width_one u l) at (sym m ∙ e) in
       rw (fields_ordinary (record { at = p; what = what u }) (walk (p + 1) (width (what u) - 1) us) n (what_ordinary u l), width_one u l)
       (from_next n (p + 1) 0 us q g f))
 ]
@@ -463,8 +463,8 @@ ordered n p zero (u ∷ us) = elim (seen (what u)) [
   where
     go : (m : ℕ) (o : Option (ℕ × ℕ)) → next (walk (p + 1) (width (what u) - 1) us) ≡ o → (field_at n p o).plain ≡ true
         → From (field_at n p o).b (fields_in m (walk (p + 1) (width (what u) - 1) us))
-    go m none e h = absurd (let z : ◌≡◌ {A = ℕ} 0 1 = cc in omega arith)
-    go m (some q) e h = from_next m (p + 1) (width (what u) - 1) us q e (eqb-true q.1 4 h)
+    go m None e h = absurd (let z : ◌≡◌ {A = ℕ} 0 1 = cc in omega arith)
+    go m (Some q) e h = from_next m (p + 1) (width (what u) - 1) us q e (eqb-true q.1 4 h)
 
 from_among : (y : ℕ) (f : Field) (fs : List Field) → From y fs → Among f fs → y < f.a
 from_among y f [] h m = absurd m

@@ -1,12 +1,12 @@
 -- Field text over bytes: the place that a search reports is where the text's body stands in the stream, and field text of a filled field
 -- reports the value. Assumes nothing.
+use Rattle.std.specs.Prelude.{Ok, Some, slice_get}
 use mathlib.Core.Path.{◌≡◌, refl, sym, ap, ◌∙◌}
 use mathlib.Core.Logic.{inl, inr}
 use Prim.Native.Nat.{ℕ, zero, suc, ◌+◌, ◌*◌, ◌-◌, ◌≤◌}
 use native.Mathlib.Omega.{arith}
-use mathlib.Core.Option.{some}
 use mathlib.Core.List.{List, [], ◌∷◌, ◌++◌, map, append_assoc}
-use lib.ListN.{length, take, drop, get_elem?, length-append, length-take}
+use lib.ListN.{length, take, drop, length-append, length-take}
 use lib.Seq.{drop_at, take_at, drop-append-add}
 use mathlib.Core.Bool.{Bool, true, cond}
 use borrow.Author.Tests.{eq-eqb, ne_eqb, le-leb, le-ltb}
@@ -23,7 +23,6 @@ use Rattle.filling.specs.Replacing.{replaced}
 use Rattle.filling.specs.Editing.{edit_view, edit_at, modified}
 use Rattle.filling.specs.Filling.{unit_count, filling, filled, text_answer}
 use Rattle.filling.specs.Accepted.{Accepted}
-use Rattle.filling.specs.declared.TextAnswer.TheVariants as T
 use Rattle.filling.proofs.SearchLaws.{hits_here, hits_past}
 use Rattle.filling.proofs.EditLaws.{is_beyond, is_owned, is_passed, which, views-edit_at}
 use Rattle.filling.proofs.FieldLaws.{moved_field}
@@ -60,7 +59,7 @@ stands_here at r rs =
     }
 
 -- the child that a search finds stands at the place that it gives
-pub child_stands : (n t at : ℕ) (rs : List Rec) (b : List ℕ) → child t (kids n rs) ≡ some b → Stands at rs b (first_byte (found_in n t 0 at rs))
+pub child_stands : (n t at : ℕ) (rs : List Rec) (b : List ℕ) → child t (kids n rs) ≡ Some b → Stands at rs b (first_byte (found_in n t 0 at rs))
 child_stands n t at [] b e = unfold kids child in absurd (let z : ◌≡◌ {A = ℕ} 0 1 = cc in omega arith)
 child_stands n t at (r ∷ rs) b e = elim (which n r.tag r.level) [
   | is_beyond l q ↦ absurd (none_there b (sym (ap (child t) (kids_beyond n r rs q)) ∙ e))
@@ -75,7 +74,7 @@ child_stands n t at (r ∷ rs) b e = elim (which n r.tag r.level) [
       (stands_on at r rs b _ (child_stands n t (at + size r) rs b (sym (ap (child t) (kids_passed n r rs q)) ∙ e)))
 ]
   where
-    none_there : (b : List ℕ) → child t [] ≡ some b → ⊥
+    none_there : (b : List ℕ) → child t [] ≡ Some b → ⊥
     none_there b q = unfold child in (let z : ◌≡◌ {A = ℕ} 0 1 = cc in omega arith)
 
 -- ---- the text of each hit
@@ -85,7 +84,7 @@ abbrev AllStand : ℕ → ℕ → List View → List Rec → List Hit → Type 0
 AllStand at i vs rs [] = Unit {0}
 AllStand at i vs rs (h ∷ hs) =
     (i ≤ h.paragraph)
-    × ((v : View) (b : List ℕ) → get_elem? vs (h.paragraph - i) ≡ some v → child 67 v.own ≡ some b → Stands at rs b h.text)
+    × ((v : View) (b : List ℕ) → slice_get vs (h.paragraph - i) ≡ Some v → child 67 v.own ≡ Some b → Stands at rs b h.text)
     × AllStand at i vs rs hs
 
 stand_append : (at i : ℕ) (vs : List View) (rs : List Rec) (x y : List Hit) → AllStand at i vs rs x → AllStand at i vs rs y
@@ -93,8 +92,8 @@ stand_append : (at i : ℕ) (vs : List View) (rs : List Rec) (x y : List Hit) �
 stand_append at i vs rs [] y p q = q
 stand_append at i vs rs (h ∷ x) y p q = (p.0, p.1, stand_append at i vs rs x y p.2 q)
 
-own_child : (r : Rec) (rs : List Rec) (v : View) (b : List ℕ) → view r rs ≡ v → child 67 v.own ≡ some b
-    → child 67 (kids (suc r.level) rs) ≡ some b
+own_child : (r : Rec) (rs : List Rec) (v : View) (b : List ℕ) → view r rs ≡ v → child 67 v.own ≡ Some b
+    → child 67 (kids (suc r.level) rs) ≡ Some b
 unfolding view
 own_child r rs v b s c = ap (λ (x : View). child 67 x.own) s ∙ c
 
@@ -104,11 +103,11 @@ unfolding hit_of
 stand_here at i r rs vs [] = tt
 stand_here at i r rs vs (f ∷ fs) = (omega arith, here, stand_here at i r rs vs fs)
   where
-    here : (v : View) (b : List ℕ) → get_elem? (view r rs ∷ vs) (i - i) ≡ some v → child 67 v.own ≡ some b
+    here : (v : View) (b : List ℕ) → slice_get (view r rs ∷ vs) (i - i) ≡ Some v → child 67 v.own ≡ Some b
         → Stands at (r ∷ rs) b (first_byte (found_in (suc r.level) 67 0 (at + size r) rs))
     here v b e c =
         let z : i - i ≡ 0 = omega arith in
-        let q : some (view r rs) ≡ some v = rw z at e in
+        let q : Some (view r rs) ≡ Some v = rw z at e in
         let s : view r rs ≡ v = cc in
         stands_on at r rs b _ (child_stands (suc r.level) 67 (at + size r) rs b (own_child r rs v b s c))
 
@@ -136,8 +135,8 @@ all_stand id i at (r ∷ rs) = elim (eq_or r.tag 66) [
 ]
 
 -- the text of the only hit
-pub hit_stands : (id : ℕ) (rs : List Rec) (h : Hit) (v : View) (b : List ℕ) → hits id 0 0 rs ≡ h ∷ [] → get_elem? (views rs) h.paragraph ≡ some v
-    → child 67 v.own ≡ some b → Stands 0 rs b h.text
+pub hit_stands : (id : ℕ) (rs : List Rec) (h : Hit) (v : View) (b : List ℕ) → hits id 0 0 rs ≡ h ∷ [] → slice_get (views rs) h.paragraph ≡ Some v
+    → child 67 v.own ≡ Some b → Stands 0 rs b h.text
 hit_stands id rs h v b e q c =
     let a = rw e at (all_stand id 0 0 rs) in
     let z : h.paragraph - 0 ≡ h.paragraph = omega arith in
@@ -157,7 +156,7 @@ value_bytes s before behind w t a b e h =
     ∙ append_assoc w (drop b t) behind)
     ∙ take_at w (drop b t ++ behind) (length w) refl)
 
-modified_there : (n : ℕ) (g : View → View) (vs : List View) (v : View) → get_elem? vs n ≡ some v → get_elem? (modified n g vs) n ≡ some (g v)
+modified_there : (n : ℕ) (g : View → View) (vs : List View) (v : View) → slice_get vs n ≡ Some v → slice_get (modified n g vs) n ≡ Some (g v)
 unfolding modified
 modified_there n g [] v e = absurd (let z : ◌≡◌ {A = ℕ} 0 1 = cc in omega arith)
 modified_there zero g (u ∷ vs) v e = let s : u ≡ v = cc in rw s
@@ -168,14 +167,14 @@ unfolding moved_field
 moved_itself f v h = (rw (le-leb f.a f.a (omega arith)), rw (le-ltb f.b f.b (omega arith)) (omega arith))
 
 answer_at : (id : ℕ) (rs : List Rec) (k : Hit) → hits id 0 0 rs ≡ k ∷ [] → k.field.plain ≡ true
-    → text_answer id rs ≡ T.At (record { 0 = k.text + 2 * k.field.a }) (2 * (k.field.b - k.field.a))
+    → text_answer id rs ≡ Ok (record { place = record { 0 = k.text + 2 * k.field.a }; len = 2 * (k.field.b - k.field.a) })
 unfolding text_answer search outcome
 answer_at id rs k e p = rw (e, outcome, p, text_answer)
 
 -- field text of the filled field, over the sheet: it is accepted, its length is the value's, and the bytes at its place are the value
 pub record Reads (id : ℕ) (w : List ℕ) (out : List Rec) : Type 0 where
   pub place : ℕ
-  pub answer : text_answer id out ≡ T.At (record { 0 = place }) (length w)
+  pub answer : text_answer id out ≡ Ok (record { place = record { 0 = place }; len = length w })
   pub bytes : take (length w) (drop place (encode out)) ≡ w
 
 pub field_text : (id : ℕ) (w : List ℕ) (rs : List Rec) (h : Hit) → Accepted rs → Done id w rs h → Reads id w (filled h w rs)
@@ -195,9 +194,9 @@ field_text id w rs h a d =
     let ab = moved_itself f (unit_count w) ends.0 in
     let ka : k.hit.field.a ≡ f.a = ap (λ (x : Field). x.a) g ∙ ab.0 in
     let kb : k.hit.field.b ≡ f.a + unit_count w = ap (λ (x : Field). x.b) g ∙ ab.1 in
-    let vs : get_elem? (views (edit_at h.paragraph (filling f w) rs)) k.hit.paragraph ≡ some (edit_view (filling f w) m.v)
-    = ap (λ (n : ℕ). get_elem? (views (edit_at h.paragraph (filling f w) rs)) n) k.paragraph
-    ∙ ap (λ (x : List View). get_elem? x h.paragraph) (views-edit_at (filling f w) (takes-filling f w) h.paragraph rs lv)
+    let vs : slice_get (views (edit_at h.paragraph (filling f w) rs)) k.hit.paragraph ≡ Some (edit_view (filling f w) m.v)
+    = ap (λ (n : ℕ). slice_get (views (edit_at h.paragraph (filling f w) rs)) n) k.paragraph
+    ∙ ap (λ (x : List View). slice_get x h.paragraph) (views-edit_at (filling f w) (takes-filling f w) h.paragraph rs lv)
     ∙ modified_there h.paragraph (edit_view (filling f w)) (views rs) m.v m.at in
     let st = hit_stands id (edit_at h.paragraph (filling f w) rs) k.hit (edit_view (filling f w) m.v) (replaced (2 * f.a) (2 * f.b) w t.0) k.is vs (text_of f w m.v t.0 t.1) in
     let long-is : 2 * (k.hit.field.b - k.hit.field.a) ≡ length w = omega (arith, ka, kb, d.value.even) in
@@ -205,12 +204,12 @@ field_text id w rs h a d =
     record {
       place = k.hit.text + 2 * k.hit.field.a;
       answer = answer_at id (edit_at h.paragraph (filling f w) rs) k.hit k.is c.plain
-          ∙ ap (λ (n : ℕ). T.At (record { 0 = k.hit.text + 2 * k.hit.field.a }) n) long-is;
+          ∙ ap (λ (n : ℕ). Ok (record { place = record { 0 = k.hit.text + 2 * k.hit.field.a }; len = n })) long-is;
       bytes =
           ap (λ (n : ℕ). take (length w) (drop n (encode (edit_at h.paragraph (filling f w) rs)))) place_is
           ∙ value_bytes (encode (edit_at h.paragraph (filling f w) rs)) st.before st.behind w t.0 (2 * f.a) (2 * f.b) st.stream (omega (arith, long, ends.0, ends.1));
     }
   where
-    text_of : (f : Field) (w : List ℕ) (v : View) (t : List ℕ) → child 67 v.own ≡ some t
-        → child 67 (edit_view (filling f w) v).own ≡ some (replaced (2 * f.a) (2 * f.b) w t)
+    text_of : (f : Field) (w : List ℕ) (v : View) (t : List ℕ) → child 67 v.own ≡ Some t
+        → child 67 (edit_view (filling f w) v).own ≡ Some (replaced (2 * f.a) (2 * f.b) w t)
     text_of f w v t e = unfold edit_view filling in (text-filled f w 0 v.own ∙ ap (mapped (replaced (2 * f.a) (2 * f.b) w)) e)

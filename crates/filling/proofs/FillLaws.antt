@@ -1,14 +1,14 @@
 -- The fill of a field as an edit of its paragraph: child by child, and the header; two fills of one paragraph commute; a fill made twice
 -- is the second alone. Assumes nothing.
+use Rattle.std.specs.Prelude.{None, Option, Some, slice_get}
 use mathlib.Core.Path.{◌≡◌, refl, sym, ap, ◌∙◌}
 use mathlib.Core.Logic.{inl, inr}
 use Prim.Native.Nat.{ℕ, ◌+◌, ◌*◌, ◌-◌, ◌/◌, ◌%◌, ◌≤◌, ◌<◌}
 use native.Mathlib.Omega.{arith}
 use mathlib.Core.Bool.{Bool, true, false, cond, ◌&&◌}
-use mathlib.Core.Option.{Option, none, some}
 use mathlib.Core.List.{List, [], ◌∷◌}
 use lib.Dec.{eqb}
-use lib.ListN.{length, drop, get_elem?}
+use lib.ListN.{length, drop}
 use borrow.Author.Tests.{eq-eqb, ne_eqb}
 use Rattle.numbers.specs.Little.{little, bytes_of, span, Bytes}
 use Rattle.numbers.proofs.LittleLaws.{length-bytes_of, little-bytes_of, little_small}
@@ -29,23 +29,23 @@ use Rattle.filling.proofs.EditLaws.{Agree, AgreeAt, at_after, at_cong}
 -- ---- the new body of a child, by its tag
 
 module _ (f : Field) (w : List ℕ) (j t : ℕ) (b : List ℕ) where
-  pub body_text : t ≡ 67 → new_body f w (record { before = j; tag = t; body = b }) ≡ some (replaced (2 * f.a) (2 * f.b) w b)
+  pub body_text : t ≡ 67 → new_body f w (record { before = j; tag = t; body = b }) ≡ Some (replaced (2 * f.a) (2 * f.b) w b)
   unfolding new_body
   body_text e = rw e
 
-  pub body_shapes : t ≡ 68 → new_body f w (record { before = j; tag = t; body = b }) ≡ some (packed (shapes_after f.a f.b (unit_count w) (shapes_in b)))
+  pub body_shapes : t ≡ 68 → new_body f w (record { before = j; tag = t; body = b }) ≡ Some (packed (shapes_after f.a f.b (unit_count w) (shapes_in b)))
   unfolding new_body
   body_shapes e = rw e
 
-  pub body_layout : t ≡ 69 → new_body f w (record { before = j; tag = t; body = b }) ≡ none
+  pub body_layout : t ≡ 69 → new_body f w (record { before = j; tag = t; body = b }) ≡ None
   unfolding new_body
   body_layout e = rw e
 
-  pub body_control : t ≡ 71 → new_body f w (record { before = j; tag = t; body = b }) ≡ some (cond (eqb j f.ordinal) (altered b) b)
+  pub body_control : t ≡ 71 → new_body f w (record { before = j; tag = t; body = b }) ≡ Some (cond (eqb j f.ordinal) (altered b) b)
   unfolding new_body
   body_control e = rw e
 
-  pub body_other : (t ≡ 67 → ⊥) → (t ≡ 68 → ⊥) → (t ≡ 69 → ⊥) → (t ≡ 71 → ⊥) → new_body f w (record { before = j; tag = t; body = b }) ≡ some b
+  pub body_other : (t ≡ 67 → ⊥) → (t ≡ 68 → ⊥) → (t ≡ 69 → ⊥) → (t ≡ 71 → ⊥) → new_body f w (record { before = j; tag = t; body = b }) ≡ Some b
   unfolding new_body
   body_other e₁ e₂ e₃ e₄ = rw (ne_eqb t 67 e₁, ne_eqb t 68 e₂, ne_eqb t 69 e₃, ne_eqb t 71 e₄)
 
@@ -79,7 +79,7 @@ takes f w c q = elim (kind c.tag) [
   | other e₁ e₂ e₃ e₄ ↦ no_some _ (sym (body_other f w c.before c.tag c.body e₁ e₂ e₃ e₄) ∙ q)
 ]
   where
-    no_some : (x : List ℕ) → ◌≡◌ {A = Option (List ℕ)} (some x) none → c.tag ≡ 69
+    no_some : (x : List ℕ) → ◌≡◌ {A = Option (List ℕ)} (Some x) None → c.tag ≡ 69
     no_some x e = cc
 
 pub takes-filling : (f : Field) (w : List ℕ) → TakesLayout (filling f w).child
@@ -188,20 +188,20 @@ AllFine n (r ∷ k) = Fine n r × AllFine n k
 
 child-put : (t : ℕ) (o : Option (List ℕ)) (r : Rec) (x : List Rec) → (r.tag ≡ t → ⊥) → child t (put o r x) ≡ child t x
 unfolding child put with_body
-child-put t none r x h = refl
-child-put t (some b) r x h = rw (ne_eqb r.tag t h)
+child-put t None r x h = refl
+child-put t (Some b) r x h = rw (ne_eqb r.tag t h)
 
-child_new : (t : ℕ) (r : Rec) (b : List ℕ) (x : List Rec) → r.tag ≡ t → child t (with_body b r ∷ x) ≡ some b
+child_new : (t : ℕ) (r : Rec) (b : List ℕ) (x : List Rec) → r.tag ≡ t → child t (with_body b r ∷ x) ≡ Some b
 unfolding child with_body
 child_new t r b x h = rw (eq-eqb r.tag t h)
 
 -- the child with a tag after a change that gives each such child the new body g
 abbrev pub mapped : (List ℕ → List ℕ) → Option (List ℕ) → Option (List ℕ)
-mapped g none = none
-mapped g (some b) = some (g b)
+mapped g None = None
+mapped g (Some b) = Some (g b)
 
 module _ (t : ℕ) (f : Change) where
-  pub child-changed : (g : List ℕ → List ℕ) → ((c : OwnedChild) → c.tag ≡ t → f c ≡ some (g c.body)) → (j : ℕ) (k : List Rec)
+  pub child-changed : (g : List ℕ → List ℕ) → ((c : OwnedChild) → c.tag ≡ t → f c ≡ Some (g c.body)) → (j : ℕ) (k : List Rec)
       → child t (changed j f k) ≡ mapped g (child t k)
   unfolding changed put
   child-changed g e j [] = unfold child in refl
@@ -211,7 +211,7 @@ module _ (t : ℕ) (f : Change) where
         ∙ child-changed g e (count_control r.tag j) k ∙ ap (mapped g) (sym (child_other t r k h))
   ]
 
-  pub child_gone : ((c : OwnedChild) → c.tag ≡ t → f c ≡ none) → (j : ℕ) (k : List Rec) → child t (changed j f k) ≡ none
+  pub child_gone : ((c : OwnedChild) → c.tag ≡ t → f c ≡ None) → (j : ℕ) (k : List Rec) → child t (changed j f k) ≡ None
   unfolding changed put
   child_gone e j [] = unfold child in refl
   child_gone e j (r ∷ k) = elim (eq_or r.tag t) [
@@ -220,7 +220,7 @@ module _ (t : ℕ) (f : Change) where
   ]
 
 -- what holds of each child holds of the one that is found
-pub fine_child : (n : ℕ) (k : List Rec) (b : List ℕ) → AllFine n k → child 68 k ≡ some b → StartsFrom 0 1 n (shapes_in b) × Bytes b
+pub fine_child : (n : ℕ) (k : List Rec) (b : List ℕ) → AllFine n k → child 68 k ≡ Some b → StartsFrom 0 1 n (shapes_in b) × Bytes b
 fine_child n [] b a e = unfold child in absurd (let z : ◌≡◌ {A = ℕ} 0 1 = cc in omega arith)
 fine_child n (r ∷ k) b a e = elim (eq_or r.tag 68) [
   | inl h ↦
@@ -229,7 +229,7 @@ fine_child n (r ∷ k) b a e = elim (eq_or r.tag 68) [
   | inr h ↦ fine_child n k b a.1 (sym (child_other 68 r k h) ∙ e)
 ]
 
-pub fine_text : (n : ℕ) (k : List Rec) (b : List ℕ) → AllFine n k → child 67 k ≡ some b → length b ≡ 2 * n
+pub fine_text : (n : ℕ) (k : List Rec) (b : List ℕ) → AllFine n k → child 67 k ≡ Some b → length b ≡ 2 * n
 fine_text n [] b a e = unfold child in absurd (let z : ◌≡◌ {A = ℕ} 0 1 = cc in omega arith)
 fine_text n (r ∷ k) b a e = elim (eq_or r.tag 67) [
   | inl h ↦ (let q : r.body ≡ b = (let x = child_here 67 r k h in cc) in rw (← q) (a.0.text h))
@@ -246,7 +246,7 @@ module _ (f : Field) (w : List ℕ) where
       → child 68 (changed j (new_body f w) k) ≡ mapped (λ b. packed (shapes_after f.a f.b (unit_count w) (shapes_in b))) (child 68 k)
   shapes-filled = child-changed 68 (new_body f w) (λ b. packed (shapes_after f.a f.b (unit_count w) (shapes_in b))) (λ c e. body_shapes f w c.before c.tag c.body e)
 
-  pub layout-filled : (j : ℕ) (k : List Rec) → child 69 (changed j (new_body f w) k) ≡ none
+  pub layout-filled : (j : ℕ) (k : List Rec) → child 69 (changed j (new_body f w) k) ≡ None
   layout-filled = child_gone 69 (new_body f w) (λ c e. body_layout f w c.before c.tag c.body e)
 
   pub marks-filled : (j : ℕ) (k : List Rec) → child 70 (changed j (new_body f w) k) ≡ mapped (λ b. b) (child 70 k)
@@ -262,8 +262,8 @@ entries-filled f w n j k z h l m a = ap shapes_of (shapes-filled f w j k) ∙ go
   where
     go : (o : Option (List ℕ)) → child 68 k ≡ o
         → shapes_of (mapped (λ b. packed (shapes_after f.a f.b (unit_count w) (shapes_in b))) o) ≡ shapes_after f.a f.b (unit_count w) (shapes_of o)
-    go none e = unfold shapes_after in refl
-    go (some b) e =
+    go None e = unfold shapes_after in refl
+    go (Some b) e =
         let q = fine_child n k b a e in
         read_after f.a f.b (unit_count w) n z h l m (shapes_in b) q.0 (shapes_small b q.1)
 
@@ -323,14 +323,14 @@ module _ (f g : Field) (w u : List ℕ) (n : ℕ) (p : Pair f g w u n) where
       body_text g u j r.tag r.body e,
       body_text f w j r.tag (replaced (2 * g.a) (2 * g.b) u r.body) e,
     )
-        (body_text (pushed f (unit_count w) g) u j r.tag _ e ∙ ap some (text_comm r.body (omega (arith, z.text e))))
+        (body_text (pushed f (unit_count w) g) u j r.tag _ e ∙ ap Some (text_comm r.body (omega (arith, z.text e))))
     | shapes e ↦ rw (
       body_shapes f w j r.tag r.body e,
       body_shapes g u j r.tag r.body e,
       body_shapes f w j r.tag (packed (shapes_after g.a g.b (unit_count u) (shapes_in r.body))) e,
     )
         (body_shapes (pushed f (unit_count w) g) u j r.tag (packed (shapes_after f.a f.b (unit_count w) (shapes_in r.body))) e
-        ∙ ap some (shapes_comm r.body (z.starts e) (z.bytes e)))
+        ∙ ap Some (shapes_comm r.body (z.starts e) (z.bytes e)))
     | layout e ↦ rw (body_layout f w j r.tag r.body e, body_layout g u j r.tag r.body e)
     | control e ↦ rw (
       body_control f w j r.tag r.body e,
@@ -338,7 +338,7 @@ module _ (f g : Field) (w u : List ℕ) (n : ℕ) (p : Pair f g w u n) where
       body_control f w j r.tag (cond (eqb j g.ordinal) (altered r.body) r.body) e,
     )
         (body_control (pushed f (unit_count w) g) u j r.tag (cond (eqb j f.ordinal) (altered r.body) r.body) e
-        ∙ ap some (marks (eqb j f.ordinal) (eqb j g.ordinal) r.body))
+        ∙ ap Some (marks (eqb j f.ordinal) (eqb j g.ordinal) r.body))
     | other e₁ e₂ e₃ e₄ ↦ rw (body_other f w j r.tag r.body e₁ e₂ e₃ e₄, body_other g u j r.tag r.body e₁ e₂ e₃ e₄)
         (body_other (pushed f (unit_count w) g) u j r.tag r.body e₁ e₂ e₃ e₄ ∙ sym (body_other f w j r.tag r.body e₁ e₂ e₃ e₄))
   ]
@@ -374,8 +374,8 @@ unfolding shapes_of
 starts_of_lem n v q = go (child 68 v.own) refl
   where
     go : (o : Option (List ℕ)) → child 68 v.own ≡ o → StartsFrom 0 1 n (shapes_of o)
-    go none e = tt
-    go (some b) e = (fine_child n v.own b q.fine e).0
+    go None e = tt
+    go (Some b) e = (fine_child n v.own b q.fine e).0
 
 -- the header after one fill, and the next one's
 head_filled : (f : Field) (w : List ℕ) (v : View) → (filling f w).head v
@@ -427,18 +427,18 @@ module _ (f g : Field) (w u : List ℕ) (n : ℕ) (p : Pair f g w u n) where
         recount_comm (little 4 v.head) q.count,
       )
 
-  agree : (o : Option View) → ((v : View) → o ≡ some v → Good n v)
+  agree : (o : Option View) → ((v : View) → o ≡ Some v → Good n v)
       → AgreeAt (then_edit (filling f w) (filling (pushed f (unit_count w) g) u)) (then_edit (filling g u) (filling f w)) o
   unfolding then_edit
-  agree none q = tt
-  agree (some v) q = (head_comm v (q v refl), unfold filling in (children_comm f g w u n p 0 v.own (q v refl).fine))
+  agree None q = tt
+  agree (Some v) q = (head_comm v (q v refl), unfold filling in (children_comm f g w u n p 0 v.own (q v refl).fine))
 
   -- two fields of one paragraph: in either order the same records
-  pub one_paragraph : (i : ℕ) (rs : List Rec) → ((v : View) → get_elem? (views rs) i ≡ some v → Good n v)
+  pub one_paragraph : (i : ℕ) (rs : List Rec) → ((v : View) → slice_get (views rs) i ≡ Some v → Good n v)
       → edit_at i (filling (pushed f (unit_count w) g) u) (edit_at i (filling f w) rs) ≡ edit_at i (filling f w) (edit_at i (filling g u) rs)
   one_paragraph i rs q =
       at_after (filling f w) (filling (pushed f (unit_count w) g) u) (takes-filling f w) i rs
-      ∙ at_cong i (then_edit (filling f w) (filling (pushed f (unit_count w) g) u)) (then_edit (filling g u) (filling f w)) rs (agree (get_elem? (views rs) i) q)
+      ∙ at_cong i (then_edit (filling f w) (filling (pushed f (unit_count w) g) u)) (then_edit (filling g u) (filling f w)) rs (agree (slice_get (views rs) i) q)
       ∙ sym (at_after (filling g u) (filling f w) (takes-filling g u) i rs)
 
 -- ---- what a fill leaves of the header

@@ -1,9 +1,9 @@
 -- A fill of a paragraph that keeps document 01's sentences (`acceptance`, Keeps) leaves one that keeps them. Assumes nothing.
+use Rattle.std.specs.Prelude.{None, Option, Some}
 use mathlib.Core.Path.{◌≡◌, refl, sym, ap, ◌∙◌, subst}
 use Prim.Native.Nat.{ℕ, suc, ◌+◌, ◌*◌, ◌-◌, ◌/◌, ◌%◌, ◌≤◌, ◌<◌, max}
 use native.Mathlib.Omega.{arith}
 use mathlib.Core.Bool.{Bool, true, false, cond, ◌&&◌}
-use mathlib.Core.Option.{Option, none, some}
 use mathlib.Core.List.{List, [], ◌∷◌, ◌++◌, map}
 use lib.Dec.{eqb}
 use lib.ListN.{length, drop, length-map}
@@ -18,10 +18,8 @@ use Rattle.text.proofs.PartLaws.{left_over, shift, singles, tokens_parts, tokens
 use Rattle.paragraph.specs.View.{View, child, controls}
 use Rattle.entries.specs.Entries.{entries}
 use Rattle.entries.proofs.EntryLaws.{length-entries}
-use Rattle.paragraph.specs.Rules.{counts_of, bytes_in, owner_of, code_before, codes_in}
+use Rattle.paragraph.specs.Rules.{counts_of, bytes_in, owner_of, code_before, codes_in, Owner}
 use Rattle.paragraph.specs.declared.finding.Counts.{Counts}
-use Rattle.paragraph.specs.declared.fields.Owner.{Owner}
-use Rattle.paragraph.specs.declared.fields.Owner.TheVariants as O
 use Rattle.acceptance.specs.Keeps.{First, Above, Rise, Below, LongEnough, Fields, Sized, Keeps}
 use Rattle.acceptance.proofs.ChainLaws.{some_none}
 use Rattle.filling.specs.Replacing.{replaced}
@@ -39,10 +37,10 @@ use Rattle.filling.proofs.SearchLaws.{no_field, drop-altered, altered_at, contro
 
 -- ---- a record that is there, or is not
 
-only : (P : List ℕ → Type 0) {o : Option (List ℕ)} {t : List ℕ} → o ≡ some t → P t → (b : List ℕ) → o ≡ some b → P b
+only : (P : List ℕ → Type 0) {o : Option (List ℕ)} {t : List ℕ} → o ≡ Some t → P t → (b : List ℕ) → o ≡ Some b → P b
 only P {o} {t} e p b q = let same : t ≡ b = cc in subst P same p
 
-gone : (P : List ℕ → Type 0) {o : Option (List ℕ)} → o ≡ none → (b : List ℕ) → o ≡ some b → P b
+gone : (P : List ℕ → Type 0) {o : Option (List ℕ)} → o ≡ None → (b : List ℕ) → o ≡ Some b → P b
 gone P e b q = absurd (some_none (sym q ∙ e))
 
 -- ---- 13: what is asked of the starts, as the laws of shapes ask it of entries
@@ -103,8 +101,8 @@ codes_append [] us = refl
 codes_append (t ∷ ts) us = rw (codes_append ts us) (go (owner_of t.what))
   where
     go : (o : Owner) → code_before o (codes_in ts ++ codes_in us) ≡ code_before o (codes_in ts) ++ codes_in us
-    go O.Nobody = refl
-    go (O.Owner c) = refl
+    go None = refl
+    go (Some c) = refl
 
 codes_singles : (p : ℕ) (x : List ℕ) → codes_in (singles p x) ≡ []
 unfolding codes_in singles
@@ -213,7 +211,7 @@ length-shapes b = length-map (entries 8 (length b / 8) b) entry_at ∙ length-en
 -- a view without layout and marks that keeps the rules
 build : (v : View) (n k : ℕ) (t s : List ℕ) (bs : List (List ℕ)) → 22 ≤ length v.head
     → counts_of v.head ≡ record { count = n; shapes = k; marks = 0; lines = 0 }
-    → child 67 v.own ≡ some t → child 68 v.own ≡ some s → child 69 v.own ≡ none → child 70 v.own ≡ none → controls v.own ≡ bs
+    → child 67 v.own ≡ Some t → child 68 v.own ≡ Some s → child 69 v.own ≡ None → child 70 v.own ≡ None → controls v.own ≡ bs
     → Sized 2 n t → Sized 8 k s → SoundText (units t) → StartsFrom 0 1 n (shapes_in s)
     → extended_count (units t) ≡ length bs → Fields (codes_in (tokens (units t))) bs → Keeps v
 unfolding shapes_in
@@ -248,7 +246,7 @@ pub record Written (v : View) (t s : List ℕ) : Type 0 where
   pub matched : extended_count (units t) ≡ length (controls v.own)
   pub fields : Fields (codes_in (tokens (units t))) (controls v.own)
 
-pub written : (v : View) (t s : List ℕ) → Keeps v → child 67 v.own ≡ some t → child 68 v.own ≡ some s → Written v t s
+pub written : (v : View) (t s : List ℕ) → Keeps v → child 67 v.own ≡ Some t → child 68 v.own ≡ Some s → Written v t s
 unfolding shapes_in
 written v t s k e₁ e₂ =
     let n = (counts_of v.head).count in
@@ -263,41 +261,41 @@ written v t s k e₁ e₂ =
       fields = rw e₁ at k.fields-long;
     }
 
-pub text_there : (v : View) (f : Field) → Among f (fields v) → (t : List ℕ) × (child 67 v.own ≡ some t)
+pub text_there : (v : View) (f : Field) → Among f (fields v) → (t : List ℕ) × (child 67 v.own ≡ Some t)
 unfolding fields
 text_there v f m = go (child 67 v.own) refl m
   where
     go : (o : Option (List ℕ)) → child 67 v.own ≡ o → Among f (fields_in 0 (tokens (units (bytes_in o))))
-        → (t : List ℕ) × (child 67 v.own ≡ some t)
-    go none e n = absurd (no_field f n)
-    go (some t) e n = (t, e)
+        → (t : List ℕ) × (child 67 v.own ≡ Some t)
+    go None e n = absurd (no_field f n)
+    go (Some t) e n = (t, e)
 
-pub shapes_there : (v : View) → Keeps v → (s : List ℕ) × (child 68 v.own ≡ some s)
+pub shapes_there : (v : View) → Keeps v → (s : List ℕ) × (child 68 v.own ≡ Some s)
 shapes_there v k = go (child 68 v.own) refl
   where
-    go : (o : Option (List ℕ)) → child 68 v.own ≡ o → (s : List ℕ) × (child 68 v.own ≡ some s)
-    go none e = absurd (k.shapes_there e)
-    go (some s) e = (s, e)
+    go : (o : Option (List ℕ)) → child 68 v.own ≡ o → (s : List ℕ) × (child 68 v.own ≡ Some s)
+    go None e = absurd (k.shapes_there e)
+    go (Some s) e = (s, e)
 
-marks_gone : (v : View) → Keeps v → (counts_of v.head).marks ≡ 0 → child 70 v.own ≡ none
+marks_gone : (v : View) → Keeps v → (counts_of v.head).marks ≡ 0 → child 70 v.own ≡ None
 marks_gone v k z = go (child 70 v.own) refl
   where
-    go : (o : Option (List ℕ)) → child 70 v.own ≡ o → child 70 v.own ≡ none
-    go none e = e
-    go (some s) e = absurd (omega (arith, (k.marks_sized s e).above))
+    go : (o : Option (List ℕ)) → child 70 v.own ≡ o → child 70 v.own ≡ None
+    go None e = e
+    go (Some s) e = absurd (omega (arith, (k.marks_sized s e).above))
 
 -- a field of a paragraph that keeps its rules and has no marks, and a value for it
 pub record Fillable (v : View) (f : Field) (w : List ℕ) : Type 0 where
   pub keeps : Keeps v
   pub bytes : Bytes v.head
   pub small : (counts_of v.head).count + 1024 < 2147483648
-  pub shapes-bytes : (s : List ℕ) → child 68 v.own ≡ some s → Bytes s
+  pub shapes-bytes : (s : List ℕ) → child 68 v.own ≡ Some s → Bytes s
   pub among : Among f (fields v)
   pub plain : f.plain ≡ true
   pub value : Value w
   pub free : (counts_of v.head).marks ≡ 0
 
-module _ (v : View) (f : Field) (w : List ℕ) (g : Fillable v f w) (t s : List ℕ) (e₁ : child 67 v.own ≡ some t) (e₂ : child 68 v.own ≡ some s) where
+module _ (v : View) (f : Field) (w : List ℕ) (g : Fillable v f w) (t s : List ℕ) (e₁ : child 67 v.own ≡ Some t) (e₂ : child 68 v.own ≡ Some s) where
   fact : Written v t s
   fact = written v t s g.keeps e₁ e₂
 

@@ -1,15 +1,15 @@
 -- How long a sheet is: a fill makes a section longer by at most its value and four bytes. The text grows by at most the value and its
 -- header by four bytes, where it passes 4,095; no other record grows. Assumes nothing.
+use Rattle.std.specs.Prelude.{None, Option, Some, slice_get}
 use mathlib.Core.Path.{◌≡◌, refl, sym, ap, ◌∙◌}
 use mathlib.Core.Logic.{inl, inr}
 use Prim.Native.Nat.{ℕ, zero, suc, ◌+◌, ◌*◌, ◌-◌, ◌≤◌}
 use native.Mathlib.Omega.{arith}
 use native.Mathlib.Nat.{zero-add}
 use mathlib.Core.Bool.{Bool, true, false, cond}
-use mathlib.Core.Option.{Option, none, some}
 use mathlib.Core.List.{List, [], ◌∷◌}
 use lib.Dec.{eqb}
-use lib.ListN.{length, get_elem?, length-append, length-take, length-drop}
+use lib.ListN.{length, length-append, length-take, length-drop}
 use borrow.Author.Tests.{eq-eqb, ne_eqb, eqb-true}
 use Rattle.records.specs.Records.{Rec, encode, size}
 use Rattle.records.specs.Parents.{Lacks}
@@ -51,22 +51,22 @@ use Rattle.filling.proofs.AcceptedLaws.{view-once, ready, follows, keeps}
 pub record Owns (n : ℕ) (f : Field) (cs : List ℕ) : Type 0 where
   pub nth : ℕ
   pub ordinal : f.ordinal ≡ n + nth
-  pub code : get_elem? cs nth ≡ some 3
+  pub code : slice_get cs nth ≡ Some 3
 
-codes_behind : (s : Standing) (cs : List ℕ) (i : ℕ) → get_elem? (code_before (owner_of s) cs) (is_extended s + i) ≡ get_elem? cs i
-codes_behind (St.Ordinary u) cs i = ap (get_elem? cs) (zero-add i)
+codes_behind : (s : Standing) (cs : List ℕ) (i : ℕ) → slice_get (code_before (owner_of s) cs) (is_extended s + i) ≡ slice_get cs i
+codes_behind (St.Ordinary u) cs i = ap (slice_get cs) (zero-add i)
 codes_behind (St.Control c) cs i = by c.class refl
   where
-    by : (k : Class) → c.class ≡ k → get_elem? (code_before (owner_of (St.Control c)) cs) (is_extended (St.Control c) + i) ≡ get_elem? cs i
-    by Character e = rw e (ap (get_elem? cs) (zero-add i))
-    by Inline e = rw e (ap (get_elem? cs) (zero-add i))
-    by Extended e = rw e (let q : 1 + i ≡ suc i = omega arith in ap (get_elem? (c.code ∷ cs)) q)
+    by : (k : Class) → c.class ≡ k → slice_get (code_before (owner_of (St.Control c)) cs) (is_extended (St.Control c) + i) ≡ slice_get cs i
+    by Character e = rw e (ap (slice_get cs) (zero-add i))
+    by Inline e = rw e (ap (slice_get cs) (zero-add i))
+    by Extended e = rw e (let q : 1 + i ≡ suc i = omega arith in ap (slice_get (c.code ∷ cs)) q)
 
 owns_behind : (n : ℕ) (f : Field) (s : Standing) (cs : List ℕ) → Owns (is_extended s + n) f cs → Owns n f (code_before (owner_of s) cs)
 owns_behind n f s cs o =
     record { nth = is_extended s + o.nth; ordinal = omega (arith, o.ordinal); code = codes_behind s cs o.nth ∙ o.code }
 
-owner_first : (c : Control) (cs : List ℕ) → c.class ≡ Extended → c.code ≡ 3 → get_elem? (code_before (owner_of (St.Control c)) cs) 0 ≡ some 3
+owner_first : (c : Control) (cs : List ℕ) → c.class ≡ Extended → c.code ≡ 3 → slice_get (code_before (owner_of (St.Control c)) cs) 0 ≡ Some 3
 owner_first c cs e h = rw (e, h)
 
 none_there : (n : ℕ) (f : Field) → Among f (fields_in n []) → ⊥
@@ -101,7 +101,7 @@ owns n p zero (u ∷ us) f m =
     (λ j q. owns j (p + 1) (width (what u) - 1) us f q) m
 
 -- the header that a code 3 owns
-codes_long : (i : ℕ) (cs : List ℕ) (bs : List (List ℕ)) (b : List ℕ) → Fields cs bs → get_elem? cs i ≡ some 3 → get_elem? bs i ≡ some b → 15 ≤ length b
+codes_long : (i : ℕ) (cs : List ℕ) (bs : List (List ℕ)) (b : List ℕ) → Fields cs bs → slice_get cs i ≡ Some 3 → slice_get bs i ≡ Some b → 15 ≤ length b
 codes_long i [] bs b k c d = absurd (let z : ◌≡◌ {A = ℕ} 0 1 = cc in omega arith)
 codes_long i (x ∷ cs) [] b k c d = absurd (let z : ◌≡◌ {A = ℕ} 0 1 = cc in omega arith)
 codes_long zero (x ∷ cs) (y ∷ bs) b k c d =
@@ -110,13 +110,13 @@ codes_long zero (x ∷ cs) (y ∷ bs) b k c d =
     rw (← same) (k.0 three).fixed
 codes_long (suc i) (x ∷ cs) (y ∷ bs) b k c d = codes_long i cs bs b k.1 c d
 
-pub field_long : (v : View) (f : Field) → Keeps v → Among f (fields v) → (b : List ℕ) → get_elem? (controls v.own) f.ordinal ≡ some b → 15 ≤ length b
+pub field_long : (v : View) (f : Field) → Keeps v → Among f (fields v) → (b : List ℕ) → slice_get (controls v.own) f.ordinal ≡ Some b → 15 ≤ length b
 unfolding fields tokens
 field_long v f k m b e =
     let o = owns 0 0 0 (units (bytes_in (child 67 v.own))) f m in
     let q : f.ordinal ≡ o.nth = omega (arith, o.ordinal) in
     codes_long o.nth (codes_in (walk 0 0 (units (bytes_in (child 67 v.own))))) (controls v.own) b k.fields-long o.code
-    (ap (get_elem? (controls v.own)) (sym q) ∙ e)
+    (ap (slice_get (controls v.own)) (sym q) ∙ e)
 
 -- ---- a record with another body
 
@@ -145,7 +145,7 @@ growths c (r ∷ k) = growth c r.tag + growths c k
 abbrev Grow : Change → ℕ → ℕ → List Rec → Type 0
 Grow f c j [] = Unit {0}
 Grow f c j (r ∷ k) =
-    ((b : List ℕ) → f (as_child j r) ≡ some b → size (with_body b r) ≤ size r + growth c r.tag) × Grow f c (count_control r.tag j) k
+    ((b : List ℕ) → f (as_child j r) ≡ Some b → size (with_body b r) ≤ size r + growth c r.tag) × Grow f c (count_control r.tag j) k
 
 growth_text : (c t : ℕ) → t ≡ 67 → growth c t ≡ c
 unfolding growth
@@ -168,11 +168,11 @@ growths_once c (r ∷ k) o = elim (eq_or r.tag 67) [
   | inr e ↦ omega (arith, growth_other c r.tag e, growths_once c k o.1)
 ]
 
-length-put : (o : Option (List ℕ)) (r : Rec) (x rs : List Rec) (m n : ℕ) → ((b : List ℕ) → o ≡ some b → size (with_body b r) ≤ size r + m)
+length-put : (o : Option (List ℕ)) (r : Rec) (x rs : List Rec) (m n : ℕ) → ((b : List ℕ) → o ≡ Some b → size (with_body b r) ≤ size r + m)
     → length (encode x) ≤ length (encode rs) + n → length (encode (put o r x)) ≤ length (encode (r ∷ rs)) + (m + n)
 unfolding put
-length-put none r x rs m n g h = omega (arith, length-encode r rs)
-length-put (some b) r x rs m n g h = omega (arith, length-encode r rs, length-encode (with_body b r) x, g b refl)
+length-put None r x rs m n g h = omega (arith, length-encode r rs)
+length-put (Some b) r x rs m n g h = omega (arith, length-encode r rs, length-encode (with_body b r) x, g b refl)
 
 length-next : (r : Rec) (x rs : List Rec) (n : ℕ) → length (encode x) ≤ length (encode rs) + n
     → length (encode (r ∷ x)) ≤ length (encode (r ∷ rs)) + n
@@ -195,7 +195,7 @@ length-behind n j f c (r ∷ rs) g = elim (which n r.tag r.level) [
 ]
 
 module _ (e : Edit) (c : ℕ) where
-  length-edit_at : (i : ℕ) (rs : List Rec) (v : View) → get_elem? (views rs) i ≡ some v → length (e.head v) ≤ length v.head
+  length-edit_at : (i : ℕ) (rs : List Rec) (v : View) → slice_get (views rs) i ≡ Some v → length (e.head v) ≤ length v.head
       → Grow e.child c 0 v.own → length (encode (edit_at i e rs)) ≤ length (encode rs) + growths c v.own
   unfolding views view
   length-edit_at i [] v q h g = absurd (let z : ◌≡◌ {A = ℕ} 0 1 = cc in omega arith)
@@ -204,7 +204,7 @@ module _ (e : Edit) (c : ℕ) where
     | inr t ↦ rw (at_past e r rs zero t) (length-next r _ rs _ (length-edit_at zero rs v (rw (ne_eqb r.tag 66 t) at q) h g))
   ]
     where
-      here : r.tag ≡ 66 → get_elem? (view r rs ∷ views rs) 0 ≡ some v → length (encode (edit_at 0 e (r ∷ rs))) ≤ length (encode (r ∷ rs)) + growths c v.own
+      here : r.tag ≡ 66 → slice_get (view r rs ∷ views rs) 0 ≡ Some v → length (encode (edit_at 0 e (r ∷ rs))) ≤ length (encode (r ∷ rs)) + growths c v.own
       here t s =
           let w : view r rs ≡ v = cc in
           let own : kids (suc r.level) rs ≡ v.own = ap (λ (x : View). x.own) w in
@@ -230,7 +230,7 @@ most_shapes a b v s = omega (arith, length-packed (shapes_after a b v (shapes_in
 
 module _ (f : Field) (w : List ℕ) (ab : f.a ≤ f.b) where
   -- one child: the header of the field's control is long enough for its properties
-  grow_body : (j : ℕ) (r : Rec) → (r.tag ≡ 71 → j ≡ f.ordinal → 8 ≤ length r.body) → (b : List ℕ) → new_body f w (as_child j r) ≡ some b
+  grow_body : (j : ℕ) (r : Rec) → (r.tag ≡ 71 → j ≡ f.ordinal → 8 ≤ length r.body) → (b : List ℕ) → new_body f w (as_child j r) ≡ Some b
       → size (with_body b r) ≤ size r + growth (length w + 4) r.tag
   grow_body j r long b e = elim (kind r.tag) [
     | text h ↦
@@ -251,14 +251,14 @@ module _ (f : Field) (w : List ℕ) (ab : f.a ≤ f.b) where
       less h = omega (arith, size_less r b h)
 
       bit : (t : Bool) → eqb j f.ordinal ≡ t → (j ≡ f.ordinal → 8 ≤ length r.body)
-          → ◌≡◌ {A = Option (List ℕ)} (some (cond t (altered r.body) r.body)) (some b) → size (with_body b r) ≤ size r + growth (length w + 4) r.tag
+          → ◌≡◌ {A = Option (List ℕ)} (Some (cond t (altered r.body) r.body)) (Some b) → size (with_body b r) ≤ size r + growth (length w + 4) r.tag
       bit true q long d =
           let s : altered r.body ≡ b = cc in
           less (omega (arith, ap length s, length-altered r.body (long (eqb-true j f.ordinal q))))
       bit false q long d = let s : r.body ≡ b = cc in less (omega (arith, ap length s))
 
   -- the children, before which j control headers stand
-  grow_children : (j : ℕ) (k : List Rec) → ((i : ℕ) (b : List ℕ) → f.ordinal ≡ j + i → get_elem? (controls k) i ≡ some b → 8 ≤ length b)
+  grow_children : (j : ℕ) (k : List Rec) → ((i : ℕ) (b : List ℕ) → f.ordinal ≡ j + i → slice_get (controls k) i ≡ Some b → 8 ≤ length b)
       → Grow (new_body f w) (length w + 4) j k
   grow_children j [] long = tt
   grow_children j (r ∷ k) long = elim (eq_or r.tag 71) [
@@ -272,7 +272,7 @@ module _ (f : Field) (w : List ℕ) (ab : f.a ≤ f.b) where
     )
   ]
     where
-      controls_other_at : (i : ℕ) (b : List ℕ) → (r.tag ≡ 71 → ⊥) → get_elem? (controls k) i ≡ some b → get_elem? (controls (r ∷ k)) i ≡ some b
+      controls_other_at : (i : ℕ) (b : List ℕ) → (r.tag ≡ 71 → ⊥) → slice_get (controls k) i ≡ Some b → slice_get (controls (r ∷ k)) i ≡ Some b
       controls_other_at i b h q = rw (controls_other r k h) q
 
 length-filling : (f : Field) (w : List ℕ) (v : View) → 22 ≤ length v.head → length ((filling f w).head v) ≡ length v.head
@@ -290,7 +290,7 @@ module _ (id : ℕ) (w : List ℕ) (rs : List Rec) (h : Hit) (a : Accepted rs) (
       let k = keeps rs a h.paragraph v m.at in
       let ends = field_ends v (ready rs a h.paragraph v f m.at m.among) f m.among d.plain in
       let g : Grow (filling f w).child (length w + 4) 0 v.own = unfold filling in (grow_children f w ends.0 0 v.own
-      (λ i b o q. (let e : f.ordinal ≡ i = omega arith in let n = field_long v f k m.among b (ap (get_elem? (controls v.own)) e ∙ q) in omega arith))) in
+      (λ i b o q. (let e : f.ordinal ≡ i = omega arith in let n = field_long v f k m.among b (ap (slice_get (controls v.own)) e ∙ q) in omega arith))) in
       omega (
         arith,
         length-edit_at (filling f w) (length w + 4) h.paragraph rs v m.at (omega (arith, length-filling f w v k.header-long)) g,

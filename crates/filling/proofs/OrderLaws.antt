@@ -1,14 +1,14 @@
 -- Two fills of two fields, in either order: the other field is still there, plain and alone, and both orders give the same records.
 -- Assumes nothing.
+use Rattle.std.specs.Prelude.{None, Option, Some, slice_get}
 use mathlib.Core.Path.{◌≡◌, refl, sym, ap, ◌∙◌}
 use mathlib.Core.Logic.{inl, inr}
 use Prim.Native.Nat.{ℕ, ◌+◌, ◌/◌, ◌%◌, ◌≤◌, ◌<◌}
 use native.Mathlib.Omega.{arith}
 use mathlib.Core.Bool.{Bool, true, false, cond, ◌||◌}
-use mathlib.Core.Option.{Option, none, some}
 use mathlib.Core.List.{List, [], ◌∷◌, map}
 use lib.Dec.{ltb, eqb}
-use lib.ListN.{length, get_elem?}
+use lib.ListN.{length}
 use borrow.Author.Tests.{lt-ltb, le-ltb, le-leb, lt-leb, eq-eqb, ne_eqb, eqb-true, eqb-false, ltb-false}
 use Rattle.records.specs.Records.{Rec}
 use Rattle.records.specs.declared.fault.Fault.TheVariants as F
@@ -107,7 +107,7 @@ fillable_done id w rs h d =
 pub done_place : (id : ℕ) (w : List ℕ) (rs : List Rec) (h : Hit) → Done id w rs h → places id 0 (views rs) ≡ bare h ∷ []
 done_place id w rs h d = sym (hits_places id 0 0 rs) ∙ ap (map bare) d.is
 
-pub done_met : (id : ℕ) (w : List ℕ) (rs : List Rec) (h : Hit) → Done id w rs h → Met id (get_elem? (views rs) h.paragraph) (bare h)
+pub done_met : (id : ℕ) (w : List ℕ) (rs : List Rec) (h : Hit) → Done id w rs h → Met id (slice_get (views rs) h.paragraph) (bare h)
 done_met id w rs h d = met_one id (views rs) (bare h) (done_place id w rs h d)
 
 -- ---- a field of an accepted view
@@ -122,8 +122,8 @@ module _ (v : View) (a : Ready v) (f : Field) (m : Among f (fields v)) (p : f.pl
   field_ends = go (child 67 v.own) refl m
     where
       go : (o : Option (List ℕ)) → child 67 v.own ≡ o → Among f (fields_in 0 (tokens (units (bytes_in o)))) → (f.a ≤ f.b) × (f.b < count_of v)
-      go none e m' = absurd (no_field f m')
-      go (some b) e m' =
+      go None e m' = absurd (no_field f m')
+      go (Some b) e m' =
           let h = a_to_b (units b) f m' p in
           (h.0, omega (arith, h.1, length-units b, fine_text (count_of v) v.own b a.fine e))
 
@@ -131,14 +131,14 @@ module _ (v : View) (a : Ready v) (f : Field) (m : Among f (fields v)) (p : f.pl
 
 -- every paragraph that has a field is accepted
 abbrev pub AllReady : List Rec → Type 0
-AllReady rs = (i : ℕ) (v : View) (f : Field) → get_elem? (views rs) i ≡ some v → Among f (fields v) → Ready v
+AllReady rs = (i : ℕ) (v : View) (f : Field) → slice_get (views rs) i ≡ Some v → Among f (fields v) → Ready v
 
 marks-filled : (f : Field) (w : List ℕ) (v : View) → Ready v → marks_in (edit_view (filling f w) v) ≡ marks_in v
 unfolding marks_in counts_of edit_view filling
 marks-filled f w v a = marks-kept f.a f.b (unit_count w) _ v.head (omega (arith, a.long))
 
 module _ (id id' : ℕ) (w : List ℕ) (rs : List Rec) (h : Hit) (lv : Leaves rs) (ok : AllReady rs) (d : Done id w rs h) where
-  moves : (v : View) → get_elem? (views rs) h.paragraph ≡ some v
+  moves : (v : View) → slice_get (views rs) h.paragraph ≡ Some v
       → Moves id' (edit_view (filling h.field w)) (moved_field h.field.a h.field.b (unit_count w)) v
   moves v e =
       let m = done_met id w rs h d in
@@ -258,7 +258,7 @@ unfolding moved_field
 moved_not f g v p q l = rw (le-leb g.a f.a (omega arith), lt-ltb g.b f.b (omega arith))
 
 -- one paragraph, f before g
-in_order : (f g : Field) (w u : List ℕ) (i : ℕ) (rs : List Rec) (v : View) → Value w → Value u → get_elem? (views rs) i ≡ some v → Ready v
+in_order : (f g : Field) (w u : List ℕ) (i : ℕ) (rs : List Rec) (v : View) → Value w → Value u → slice_get (views rs) i ≡ Some v → Ready v
     → Among f (fields v) → Among g (fields v) → f.plain ≡ true → g.plain ≡ true → f.b < g.a
     → edit_at i (filling (moved_field f.a f.b (unit_count w) g) u) (edit_at i (filling f w) rs)
     ≡ edit_at i (filling (moved_field g.a g.b (unit_count u) f) w) (edit_at i (filling g u) rs)
@@ -288,7 +288,7 @@ apart_fields v f g p q m n = apart (units (bytes_in (child 67 v.own))) f g p q m
 module _ (id id' : ℕ) (ne : id ≡ id' → ⊥) (w u : List ℕ) (rs : List Rec) (h h' : Hit) (lv : Leaves rs) (ok : AllReady rs)
     (d : Done id w rs h) (d' : Done id' u rs h') where
   -- both in one paragraph
-  meet_one : (i : ℕ) → Met id (get_elem? (views rs) i) (bare h) → Met id' (get_elem? (views rs) i) (bare h')
+  meet_one : (i : ℕ) → Met id (slice_get (views rs) i) (bare h) → Met id' (slice_get (views rs) i) (bare h')
       → edit_at i (filling (moved_field h.field.a h.field.b (unit_count w) h'.field) u) (edit_at i (filling h.field w) rs)
       ≡ edit_at i (filling (moved_field h'.field.a h'.field.b (unit_count u) h.field) w) (edit_at i (filling h'.field u) rs)
   meet_one i m m' =
@@ -311,8 +311,8 @@ module _ (id id' : ℕ) (ne : id ≡ id' → ⊥) (w u : List ℕ) (rs : List Re
       (edit_at h'.paragraph (filling h'.field u) rs)
   meet = elim (eq_or h.paragraph h'.paragraph) [
     | inl e ↦
-        (let m' : Met id' (get_elem? (views rs) h.paragraph) (bare h')
-        = carry id' (bare h') _ _ (ap (λ (k : ℕ). get_elem? (views rs) k) (sym e)) (done_met id' u rs h' d') in
+        (let m' : Met id' (slice_get (views rs) h.paragraph) (bare h')
+        = carry id' (bare h') _ _ (ap (λ (k : ℕ). slice_get (views rs) k) (sym e)) (done_met id' u rs h' d') in
         rw (← e, eq-eqb h.paragraph h.paragraph refl) (meet_one h.paragraph (done_met id w rs h d) m'))
     | inr e ↦ rw (ne_eqb h.paragraph h'.paragraph e, ne_eqb h'.paragraph h.paragraph (λ z. e (sym z)))
         (elim (lt_or h.paragraph h'.paragraph) [

@@ -1,9 +1,9 @@
 -- An edit that takes away layout records only keeps the rules of place and level. Assumes nothing.
+use Rattle.std.specs.Prelude.{None, Option, Some}
 use mathlib.Core.Path.{◌≡◌, refl}
 use mathlib.Core.Logic.{inl, inr}
 use Prim.Native.Nat.{ℕ, zero, suc, ◌+◌, ◌≤◌, ◌<◌}
 use native.Mathlib.Omega.{arith}
-use mathlib.Core.Option.{Option, none, some}
 use mathlib.Core.List.{List, [], ◌∷◌}
 use lib.ListN.{length}
 use Rattle.records.specs.Records.{Rec, RecordObeys, Lawful}
@@ -22,8 +22,8 @@ leaves (r ∷ rs) e = ((λ t. e.0.leaf (omega arith) (omega arith)), leaves rs e
 
 lacks-put : (t : ℕ) (o : Option (List ℕ)) (r : Rec) (x : List Rec) → (r.tag ≡ t → ⊥) → Lacks t x → Lacks t (put o r x)
 unfolding put with_body
-lacks-put t none r x h l = l
-lacks-put t (some b) r x h l = (h, l)
+lacks-put t None r x h l = l
+lacks-put t (Some b) r x h l = (h, l)
 
 lacks-changed : (t j : ℕ) (f : Change) (k : List Rec) → Lacks t k → Lacks t (changed j f k)
 unfolding changed
@@ -32,8 +32,8 @@ lacks-changed t j f (r ∷ k) l = lacks-put t (f (as_child j r)) r (changed (cou
 
 once-put : (o : Option (List ℕ)) (r : Rec) (x : List Rec) → (r.tag ≤ 70 → Lacks r.tag x) → Once x → Once (put o r x)
 unfolding put with_body
-once-put none r x h l = l
-once-put (some b) r x h l = (h, l)
+once-put None r x h l = l
+once-put (Some b) r x h l = (h, l)
 
 once-changed : (j : ℕ) (f : Change) (k : List Rec) → Once k → Once (changed j f k)
 unfolding changed
@@ -57,8 +57,8 @@ stops_behind m n j f (r ∷ rs) q v s = elim (which n r.tag r.level) [
 
     go : (o : Option (List ℕ)) → f (as_child j r) ≡ o → (Stops m rs → Stops m (edit_behind n (count_control r.tag j) f rs))
         → Stops m (put o r (edit_behind n (count_control r.tag j) f rs))
-    go none e ih = ih (weaker rs (v.0 (q (as_child j r) e)))
-    go (some b) e ih = s
+    go None e ih = ih (weaker rs (v.0 (q (as_child j r) e)))
+    go (Some b) e ih = s
 
 -- where a record goes, what follows it may stand in its place
 lawful_weaker : (l m : ℕ) (rs : List Rec) → l ≤ m → Stops l rs → Lawful (l + 1) rs → Lawful m rs
@@ -87,8 +87,8 @@ lawful_behind m n j f (r ∷ rs) q v s z = elim (which n r.tag r.level) [
     go : (o : Option (List ℕ)) → f (as_child j r) ≡ o
         → ((k : ℕ) → Lawful k rs → Bodies (edit_behind n (count_control r.tag j) f rs) → Lawful k (edit_behind n (count_control r.tag j) f rs))
         → Bodies (put o r (edit_behind n (count_control r.tag j) f rs)) → Lawful m (put o r (edit_behind n (count_control r.tag j) f rs))
-    go none e ih y = ih m (lawful_weaker r.level m rs s.0.level_cap (v.0 (q (as_child j r) e)) s.1) y
-    go (some b) e ih y = unfold with_body in (obeys_body m r b s.0 y.0, ih (r.level + 1) s.1 y.1)
+    go None e ih y = ih m (lawful_weaker r.level m rs s.0.level_cap (v.0 (q (as_child j r) e)) s.1) y
+    go (Some b) e ih y = unfold with_body in (obeys_body m r b s.0 y.0, ih (r.level + 1) s.1 y.1)
 
 -- ---- every record's rule
 
@@ -112,8 +112,8 @@ each_behind n j f (r ∷ rs) q u = elim (which n r.tag r.level) [
   where
     go : (o : Option (List ℕ)) → n ≤ r.level → Each (edit_behind n (count_control r.tag j) f rs)
         → Each (put o r (edit_behind n (count_control r.tag j) f rs))
-    go none l ih = ih
-    go (some b) l ih = (rule_behind n (count_control r.tag j) f r b rs l q (leaves rs u.1) u.0, ih)
+    go None l ih = ih
+    go (Some b) l ih = (rule_behind n (count_control r.tag j) f r b rs l q (leaves rs u.1) u.0, ih)
 
 module _ (e : Edit) (q : TakesLayout e.child) where
   stops_edit_at : (m i : ℕ) (rs : List Rec) → Stops m rs → Stops m (edit_at i e rs)

@@ -1,13 +1,13 @@
 -- The search after a fill: every other field with its id is found where it was, moved with the text. Assumes nothing.
+use Rattle.std.specs.Prelude.{None, Option, Some, slice_get}
 use mathlib.Core.Path.{◌≡◌, refl, ap, ◌∙◌}
 use mathlib.Core.Logic.{inl, inr}
 use Prim.Native.Nat.{ℕ, zero, suc, ◌+◌, ◌*◌, ◌-◌, ◌≤◌, ◌<◌}
 use native.Mathlib.Omega.{arith}
 use mathlib.Core.Bool.{Bool, true, false, cond}
-use mathlib.Core.Option.{Option, none, some}
 use mathlib.Core.List.{List, [], ◌∷◌, ◌++◌, map}
 use lib.Dec.{eqb}
-use lib.ListN.{length, get_or, drop, get_elem?}
+use lib.ListN.{length, get_or, drop}
 use borrow.Author.Tests.{eq-eqb, ne_eqb, eqb-true}
 use Rattle.numbers.specs.Little.{little, bytes_of}
 use Rattle.numbers.proofs.LittleLaws.{length-bytes_of}
@@ -47,8 +47,8 @@ id_cond false b = refl
 
 controls-put : (o : Option (List ℕ)) (r : Rec) (x : List Rec) → (r.tag ≡ 71 → ⊥) → controls (put o r x) ≡ controls x
 unfolding controls put with_body
-controls-put none r x h = refl
-controls-put (some b) r x h = rw (ne_eqb r.tag 71 h)
+controls-put None r x h = refl
+controls-put (Some b) r x h = rw (ne_eqb r.tag 71 h)
 
 controls_new : (r : Rec) (b : List ℕ) (x : List Rec) → r.tag ≡ 71 → controls (with_body b r ∷ x) ≡ b ∷ controls x
 unfolding controls with_body
@@ -110,8 +110,8 @@ no_field f m = m
 module _ (f : Field) (w : List ℕ) (even : length w ≡ 2 * unit_count w) where
   text-units : (x : Option (List ℕ)) → Among f (fields_in 0 (tokens (units (bytes_in x)))) → f.plain ≡ true
       → units (bytes_in (mapped (replaced (2 * f.a) (2 * f.b) w) x)) ≡ replaced f.a f.b (units w) (units (bytes_in x))
-  text-units none m p = absurd (no_field f m)
-  text-units (some b) m p =
+  text-units None m p = absurd (no_field f m)
+  text-units (Some b) m p =
       let h = a_to_b (units b) f m p in
       units-replaced f.a f.b (unit_count w) w b (omega (arith, h.0, h.1, length-units b)) even
 
@@ -213,7 +213,7 @@ pub record Moves (id : ℕ) (d : View → View) (g : Field → Field) (v : View)
   pub fields : with_id id (d v) (fields (d v)) ≡ map g (with_id id v (fields v))
   pub marks : marks_in (d v) ≡ marks_in v
 
-pub places_modified : (id i j : ℕ) (d : View → View) (g : Field → Field) (vs : List View) → ((v : View) → get_elem? vs j ≡ some v → Moves id d g v)
+pub places_modified : (id i j : ℕ) (d : View → View) (g : Field → Field) (vs : List View) → ((v : View) → slice_get vs j ≡ Some v → Moves id d g v)
     → places id i (modified j d vs) ≡ map (moved_place (i + j) g) (places id i vs)
 unfolding places modified
 places_modified id i j d g [] m = refl
@@ -241,14 +241,14 @@ places_modified id i (suc j) d g (v ∷ vs) m =
 
 pub record Met (id : ℕ) (o : Option View) (p : Place) : Type 0 where
   pub v : View
-  pub at : o ≡ some v
+  pub at : o ≡ Some v
   pub among : Among p.field (fields v)
   pub ident : id_of v p.field ≡ id
   pub same-marks : p.marks ≡ marks_in v
 
 abbrev AllMet : ℕ → ℕ → List View → List Place → Type 0
 AllMet id i vs [] = Unit {0}
-AllMet id i vs (p ∷ ps) = (i ≤ p.paragraph) × Met id (get_elem? vs (p.paragraph - i)) p × AllMet id i vs ps
+AllMet id i vs (p ∷ ps) = (i ≤ p.paragraph) × Met id (slice_get vs (p.paragraph - i)) p × AllMet id i vs ps
 
 met_append : (id i : ℕ) (vs : List View) (a b : List Place) → AllMet id i vs a → AllMet id i vs b → AllMet id i vs (a ++ b)
 met_append id i vs [] b p q = q
@@ -278,7 +278,7 @@ met id i (v ∷ vs) =
     (met_here id i v vs (fields v) (λ f m. m)) (met_on id i v vs (places id (suc i) vs) (met id (suc i) vs))
 
 -- the only place with an id
-pub met_one : (id : ℕ) (vs : List View) (p : Place) → places id 0 vs ≡ p ∷ [] → Met id (get_elem? vs p.paragraph) p
+pub met_one : (id : ℕ) (vs : List View) (p : Place) → places id 0 vs ≡ p ∷ [] → Met id (slice_get vs p.paragraph) p
 met_one id vs p e =
     let a = rw e at (met id 0 vs) in
     let q : p.paragraph - 0 ≡ p.paragraph = omega arith in

@@ -1,13 +1,13 @@
 -- A section is its own sheet only when it was filled so already: the field's text is the value, the count is the same, and bit 15 is set
 -- (document 01, 'What acceptance of a promise means'). Assumes nothing.
+use Rattle.std.specs.Prelude.{Some, slice_get}
 use mathlib.Core.Path.{◌≡◌, refl, sym, ap, ◌∙◌}
 use mathlib.Core.Logic.{inl, inr}
 use Prim.Native.Nat.{ℕ, zero, suc, ◌+◌, ◌-◌, ◌/◌, ◌%◌, ◌<◌}
 use native.Mathlib.Omega.{arith}
 use mathlib.Core.Bool.{true}
-use mathlib.Core.Option.{some}
 use mathlib.Core.List.{List, [], ◌∷◌}
-use lib.ListN.{length, get_or, take, drop, get_elem?}
+use lib.ListN.{length, get_or, take, drop}
 use Rattle.numbers.specs.Little.{little, Bytes}
 use Rattle.records.specs.Kinds as kind
 use Rattle.records.specs.Records.{Rec}
@@ -38,12 +38,12 @@ use Rattle.filling.proofs.LengthLaws.{owns, field_long}
 
 -- ---- a field's control header is there, and its bytes are bytes
 
-below_length : (i : ℕ) (l : List ℕ) (x : ℕ) → get_elem? l i ≡ some x → i < length l
+below_length : (i : ℕ) (l : List ℕ) (x : ℕ) → slice_get l i ≡ Some x → i < length l
 below_length i [] x e = absurd (let z : ◌≡◌ {A = ℕ} 0 1 = cc in omega arith)
 below_length zero (y ∷ l) x e = omega arith
 below_length (suc i) (y ∷ l) x e = omega (arith, below_length i l x e)
 
-there : (i : ℕ) (l : List (List ℕ)) → i < length l → get_elem? l i ≡ some (get_or l i [])
+there : (i : ℕ) (l : List (List ℕ)) → i < length l → slice_get l i ≡ Some (get_or l i [])
 there i [] h = absurd (omega arith)
 there zero (b ∷ l) h = refl
 there (suc i) (b ∷ l) h = there i l (omega arith)
@@ -106,7 +106,7 @@ unchanged f w v e k bs m p u =
 
 -- a filler that hands back the template is wrong, but where the template was filled so already
 pub template_sheet : (id : ℕ) (w : List ℕ) (rs : List Rec) (h : Hit) → Accepted rs → Done id w rs h → filled h w rs ≡ rs
-    → (v : View) → get_elem? (views rs) h.paragraph ≡ some v → FilledAlready h.field w v
+    → (v : View) → slice_get (views rs) h.paragraph ≡ Some v → FilledAlready h.field w v
 unfolding filled
 template_sheet id w rs h a d e v q =
     let m = done_met id w rs h d in

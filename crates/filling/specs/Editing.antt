@@ -1,7 +1,6 @@
 -- An edit of one paragraph: of its header's body and of its owned children; all else is the identity (document 01, 'Filling a field':
 -- everything else is copied).
-use Rattle.std.specs.Prelude.{ℕ, zero, suc, true, false, cond, ◌≡◌, List, [], ◌∷◌, eqb}
-use Rattle.std.proofs.Math.Option.{Option, none, some}
+use Rattle.std.specs.Prelude.{ℕ, zero, suc, true, false, cond, ◌≡◌, List, [], ◌∷◌, eqb, None, Option, Some}
 use Rattle.records.specs.Kinds as kind
 use Rattle.records.specs.Records.{Rec}
 use Rattle.paragraph.specs.View.{View, view, side}
@@ -29,8 +28,8 @@ with_body b r = record { tag = r.tag; level = r.level; body = b }
 
 -- a record with its new body before rs; only rs where it goes
 unfoldable pub put : Option (List ℕ) → Rec → List Rec → List Rec
-put none r rs = rs
-put (some b) r rs = with_body b r ∷ rs
+put None r rs = rs
+put (Some b) r rs = with_body b r ∷ rs
 
 -- the number of control headers behind a record with tag t
 unfoldable pub count_control : ℕ → ℕ → ℕ
@@ -75,12 +74,12 @@ modified (suc i) g (v ∷ vs) = v ∷ modified i g vs
 
 -- a change that takes away layout records only
 abbrev pub TakesLayout : Change → Type 0
-TakesLayout f = (c : OwnedChild) → f c ≡ none → c.tag ≡ kind.layout
+TakesLayout f = (c : OwnedChild) → f c ≡ None → c.tag ≡ kind.layout
 
 -- one after another
 unfoldable pub then_body : Change → OwnedChild → Option (List ℕ) → Option (List ℕ)
-then_body g c none = none
-then_body g c (some b) = g (record { before = c.before; tag = c.tag; body = b })
+then_body g c None = None
+then_body g c (Some b) = g (record { before = c.before; tag = c.tag; body = b })
 
 unfoldable pub then_change : Change → Change → Change
 then_change f g c = then_body g c (f c)

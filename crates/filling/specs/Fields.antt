@@ -1,6 +1,5 @@
 -- The fields of a paragraph: its code 3 controls (document 01, 'Filling a field').
-use Rattle.std.specs.Prelude.{ℕ, ◌+◌, ◌*◌, Bool, false, cond, List, [], ◌∷◌, eqb, get_or, drop}
-use Rattle.std.proofs.Math.Option.{Option, none, some}
+use Rattle.std.specs.Prelude.{ℕ, ◌+◌, ◌*◌, Bool, false, cond, List, [], ◌∷◌, eqb, get_or, drop, None, Option, Some}
 use Rattle.numbers.specs.Little.{little}
 use Rattle.records.specs.Kinds as kind
 use Rattle.text.specs.Units.{units}
@@ -19,13 +18,13 @@ pub record Field : Type 0 where
 
 -- the next unit below 32: its position, and its code
 unfoldable pub next : List Token → Option (ℕ × ℕ)
-next [] = none
-next (t ∷ ts) = elim t.what [ Ordinary u ↦ next ts | Control c ↦ some (t.at, c.code) ]
+next [] = None
+next (t ∷ ts) = elim t.what [ Ordinary u ↦ next ts | Control c ↦ Some (t.at, c.code) ]
 
 -- the field whose control stands at position p, with n extended controls before it
 unfoldable pub field_at : ℕ → ℕ → Option (ℕ × ℕ) → Field
-field_at n p none = record { ordinal = n; a = p + 8; b = 0; plain = false }
-field_at n p (some x) = record { ordinal = n; a = p + 8; b = x.0; plain = eqb x.1 4 }
+field_at n p None = record { ordinal = n; a = p + 8; b = 0; plain = false }
+field_at n p (Some x) = record { ordinal = n; a = p + 8; b = x.0; plain = eqb x.1 4 }
 
 -- the fields among tokens, before which n extended controls stand
 unfoldable pub fields_in : ℕ → List Token → List Field

@@ -1,27 +1,28 @@
 -- Filling a field, and the text of a field (document 01, 'Filling a field' and 'Order').
-use Rattle.std.specs.Prelude.{ℕ, ◌+◌, ◌*◌, ◌-◌, ◌/◌, ◌%◌, ◌≤◌, Bool, true, false, cond, ◌||◌, ◌≡◌, List, [], ◌∷◌, ltb, eqb, length, drop}
-use Rattle.std.proofs.Math.Option.{Option, none, some}
+use Rattle.std.specs.Prelude.{ℕ, ◌+◌, ◌*◌, ◌-◌, ◌/◌, ◌%◌, ◌≤◌, Bool, true, false, cond, ◌||◌, ◌≡◌, List, [], ◌∷◌, ltb, eqb, length, drop, Err, None, Ok, Option, Some, Result}
 use Rattle.numbers.specs.Little.{little, bytes_of}
 use Rattle.records.specs.Kinds as kind
 use Rattle.records.specs.Records.{Rec, limit, encode}
-use Rattle.records.specs.Answers.{refused_at, number_of, host_form}
+use Rattle.records.specs.Answers.{refused_at, number_of, host_form, Answer}
 use Rattle.records.specs.declared.fault.Fault.{Fault}
 use Rattle.records.specs.declared.fault.Fault.TheVariants as F
-use Rattle.records.specs.declared.fault.Answer.{Answer}
-use Rattle.records.specs.declared.fault.Answer.TheVariants as A
 use Rattle.text.specs.Units.{units}
 use Rattle.text.specs.Walk.{AllOrdinary}
 use Rattle.paragraph.specs.View.{child}
-use Rattle.filling.specs.declared.TextAnswer.{TextAnswer}
-use Rattle.filling.specs.declared.TextAnswer.TheVariants as T
 use Rattle.filling.specs.Replacing.{replaced}
 use Rattle.filling.specs.Shapes.{Entry, shapes_in, packed, shapes_after}
 use Rattle.filling.specs.Fields.{Field}
 use Rattle.filling.specs.Editing.{Change, Edit, edit_at}
 use Rattle.filling.specs.Search.{Hit, Outcome, one, refused, search}
+use Rattle.records.specs.declared.fault.Refusal.{Refusal}
+use Rattle.filling.specs.declared.Span.{Span}
+
+-- what field text answers: where the value stands, or the refusal
+abbrev pub TextAnswer : Type 0
+TextAnswer = Result Span Refusal
 
 abbrev pub text_refused_at : Fault → ℕ → TextAnswer
-text_refused_at f p = T.Refused (record { fault = f; place = record { 0 = p } })
+text_refused_at f p = Err (record { fault = f; place = record { 0 = p } })
 
 -- ---- the value: bytes, two for each unit
 
@@ -64,16 +65,16 @@ altered body = replaced 4 8 (bytes_of 4 (with_bit15 (little 4 (drop 4 body)))) b
 
 -- the entries of a shapes record, if there is one
 unfoldable pub shapes_of : Option (List ℕ) → List Entry
-shapes_of none = []
-shapes_of (some s) = shapes_in s
+shapes_of None = []
+shapes_of (Some s) = shapes_in s
 
 -- by the child's tag: text 67, shapes 68, layout 69, control header 71
 unfoldable pub new_body : Field → List ℕ → Change
 new_body f value c =
-    cond (eqb c.tag kind.text) (some (replaced (2 * f.a) (2 * f.b) value c.body))
-    (cond (eqb c.tag kind.shapes) (some (packed (shapes_after f.a f.b (unit_count value) (shapes_in c.body))))
-    (cond (eqb c.tag kind.layout) none
-    (cond (eqb c.tag kind.control_header) (some (cond (eqb c.before f.ordinal) (altered c.body) c.body)) (some c.body))))
+    cond (eqb c.tag kind.text) (Some (replaced (2 * f.a) (2 * f.b) value c.body))
+    (cond (eqb c.tag kind.shapes) (Some (packed (shapes_after f.a f.b (unit_count value) (shapes_in c.body))))
+    (cond (eqb c.tag kind.layout) None
+    (cond (eqb c.tag kind.control_header) (Some (cond (eqb c.before f.ordinal) (altered c.body) c.body)) (Some c.body))))
 
 -- the fill of a field as an edit of its paragraph
 unfoldable pub filling : Field → List ℕ → Edit
@@ -103,7 +104,7 @@ sheet h value rs = encode (filled h value rs)
 
 -- a sheet of n bytes for a buffer of `room` bytes: 25, 26, else its length
 unfoldable pub fits : ℕ → ℕ → Answer
-fits n room = cond (ltb limit n) (refused_at F.SheetTooLong 0) (cond (ltb room n) (refused_at F.BufferTooShort 0) (A.Accepted n))
+fits n room = cond (ltb limit n) (refused_at F.SheetTooLong 0) (cond (ltb room n) (refused_at F.BufferTooShort 0) (Ok n))
 
 -- what fill answers
 unfoldable pub fill_answer : ℕ → List ℕ → List Rec → ℕ → Answer
@@ -115,7 +116,7 @@ unfoldable pub fill_bytes : ℕ → List ℕ → List Rec → ℕ → List ℕ
 fill_bytes id value rs room =
     elim (fillable id value rs) [
       | refused f p ↦ []
-      | one h ↦ elim (fits (length (sheet h value rs)) room) [ A.Accepted n ↦ sheet h value rs | A.Refused r ↦ [] ]
+      | one h ↦ elim (fits (length (sheet h value rs)) room) [ Ok n ↦ sheet h value rs | Err r ↦ [] ]
     ]
 
 -- ---- field text: 21 to 23, else the place and length of the bytes from a to b
@@ -128,21 +129,21 @@ unfoldable pub text_answer : ℕ → List Rec → TextAnswer
 text_answer id rs =
     elim (search id rs) [
       | refused f p ↦ text_refused_at f p
-      | one h ↦ T.At (record { 0 = place_in h.text h.field.a }) (2 * (h.field.b - h.field.a))
+      | one h ↦ Ok (record { place = record { 0 = place_in h.text h.field.a }; len = 2 * (h.field.b - h.field.a) })
     ]
 
 -- document 01's number, place and further number of field text's answer
 abbrev pub text_number : TextAnswer → ℕ
-text_number (T.At p n) = 0
-text_number (T.Refused r) = number_of r.fault
+text_number (Ok t) = 0
+text_number (Err r) = number_of r.fault
 
 abbrev pub text_place : TextAnswer → ℕ
-text_place (T.At p n) = p.0
-text_place (T.Refused r) = r.place.0
+text_place (Ok t) = t.place.0
+text_place (Err r) = r.place.0
 
 abbrev pub text_length : TextAnswer → ℕ
-text_length (T.At p n) = n
-text_length (T.Refused r) = 0
+text_length (Ok t) = t.len
+text_length (Err r) = 0
 
 -- the sum that tells the host field text's answer
 abbrev pub text_sum : TextAnswer → ℕ

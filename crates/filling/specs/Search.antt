@@ -1,20 +1,18 @@
 -- The field search: paragraphs in stream order, and in each its text from the start (document 01, 'The field search').
-use Rattle.std.specs.Prelude.{ℕ, suc, ◌+◌, true, false, cond, List, [], ◌∷◌, ◌++◌, map, eqb}
+use Rattle.std.specs.Prelude.{ℕ, suc, ◌+◌, true, false, cond, List, [], ◌∷◌, ◌++◌, map, eqb, None, Some}
 use Rattle.records.specs.Kinds as kind
 use Rattle.records.specs.Records.{Rec, size}
 use Rattle.paragraph.specs.View.{view}
 use Rattle.paragraph.specs.Rules.{counts_of}
-use Rattle.paragraph.specs.Places.{found_in, place_found}
-use Rattle.paragraph.specs.declared.children.Found.{Found}
-use Rattle.paragraph.specs.declared.children.Found.TheVariants as P
+use Rattle.paragraph.specs.Places.{found_in, place_found, Found}
 use Rattle.records.specs.declared.fault.Fault.{Fault}
 use Rattle.records.specs.declared.fault.Fault.TheVariants as F
 use Rattle.filling.specs.Fields.{Field, fields, with_id}
 
 -- the place of the first byte of a child's body
 abbrev pub first_byte : Found → ℕ
-first_byte (P.At p) = p.body.0
-first_byte P.Nothing = 0
+first_byte (Some p) = p.body.0
+first_byte None = 0
 
 -- a field with the id: the number of its paragraph, the places of the paragraph header, of the text's first byte and of its control
 -- header, and its paragraph's number of marks

@@ -6,21 +6,20 @@ ghost use Rattle.filling.specs.Filling.{with_bit15};
 
 use records::{Offset, Refusal};
 
-// What field text answers: where the value starts and how many bytes it has, or the refusal.
+// Bytes of a stream: where they begin, and how many they are.
 #[derive(Clone, Copy)]
-pub enum TextAnswer {
-    At { place: Offset, len: usize },
-    Refused(Refusal),
+pub struct Span {
+    pub place: Offset,
+    pub len: usize,
 }
 
+// What field text answers: where the value stands, or the refusal.
+pub type TextAnswer = Result<Span, Refusal>;
+
 // Properties with bit 15 set: contents altered.
-#[tactic(auto, using(crate::proofs::AnswerLaws::bit_set, crate::proofs::AnswerLaws::bit_clear))]
+#[tactic(auto, using(crate::proofs::AnswerLaws::bit_put))]
 pub fn with_bit_15(properties: u32) -> u32
     ensures { result ≡ with_bit15 properties }
 {
-    if properties / 32768 % 2 == 1 {
-        properties
-    } else {
-        properties + 32768
-    }
+    properties | 0x8000
 }

@@ -1,5 +1,6 @@
 -- What the host reads back, over the promises of the C face: where a fill tells number 0, check of the sheet and field text of it with the same
 -- id tell number 0, and the bytes that field text points to are the value. Assumes nothing.
+use Rattle.std.specs.Prelude.{Ok}
 use Prim.Native.Nat.{ℕ, ◌≤◌}
 use native.Mathlib.Omega.{arith}
 use mathlib.Core.Path.{◌≡◌, refl, sym, ap, ap₂, ◌∙◌, subst}
@@ -8,14 +9,11 @@ use lib.ListN.{length, take, drop}
 use Rattle.numbers.specs.Little.{Bytes}
 use Rattle.numbers.proofs.LittleLaws.{bytes_take}
 use Rattle.records.specs.Records.{limit}
-use Rattle.records.specs.Answers.{host_form, number, place, sum_of}
-use Rattle.records.specs.declared.fault.Answer.{Answer}
-use Rattle.records.specs.declared.fault.Answer.TheVariants as A
+use Rattle.records.specs.Answers.{host_form, number, place, sum_of, Answer}
 use Rattle.records.proofs.AnswerLaws.{Apart, told_apart, answer_number, zero_accepts}
 use Rattle.section.specs.Section.{check_answer}
 use Rattle.section.proofs.NearLaws.{check_near}
-use Rattle.filling.specs.Filling.{text_place, text_sum}
-use Rattle.filling.specs.declared.TextAnswer.{TextAnswer}
+use Rattle.filling.specs.Filling.{text_place, text_sum, TextAnswer}
 use Rattle.orders.specs.Calls.{field_text_of}
 use Rattle.orders.specs.Promise.{Filled}
 use Rattle.orders.proofs.Promises.{sheet_accepted, sheet-text}
@@ -45,7 +43,7 @@ module _ (s : List ℕ) (id : ℕ) (value out : List ℕ) (m : ℕ) (out' : List
   length-is : place_told m ≡ n
   length-is = parts.place_is
 
-  filled_so : Filled s id value out (A.Accepted n) out'
+  filled_so : Filled s id value out (Ok n) out'
   filled_so =
       record { answer = sym (zero_accepts k.answer (sym parts.number_is ∙ accepted)) ∙ k.filled.answer; sheet = k.filled.sheet }
 

@@ -6,13 +6,11 @@ use mathlib.Core.List.{List}
 use lib.ListN.{length}
 use Rattle.numbers.specs.Little.{Bytes}
 use Rattle.records.specs.Records.{limit}
-use Rattle.records.specs.Answers.{place_bits, host_form, number, place, sum_of}
-use Rattle.records.specs.declared.fault.Answer.{Answer}
+use Rattle.records.specs.Answers.{place_bits, host_form, number, place, sum_of, Answer}
 use Rattle.records.proofs.AnswerLaws.{in_full}
 use Rattle.section.specs.Section.{check_answer}
 use Rattle.section.proofs.NearLaws.{check_near}
-use Rattle.filling.specs.Filling.{text_number, text_place, text_length, text_sum}
-use Rattle.filling.specs.declared.TextAnswer.{TextAnswer}
+use Rattle.filling.specs.Filling.{text_number, text_place, text_length, text_sum, TextAnswer}
 use Rattle.orders.specs.Calls.{field_text_of}
 use Rattle.orders.specs.Promise.{Filled}
 use Rattle.fields.proofs.NearLaws.{fill_call_near, text_call_near}

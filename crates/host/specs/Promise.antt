@@ -1,9 +1,8 @@
 -- What the C face promises: the promise of each call, its answer told as document 01's sum ('What the part does'); and that it leaves no
 -- choice. Assumes nothing.
+use Rattle.records.specs.Answers.{Answer, sum_of}
 use Rattle.std.specs.Prelude.{ℕ, ◌/◌, ◌%◌, ◌≡◌, List}
 use Rattle.std.proofs.Common.{sym, ap, ◌∙◌}
-use Rattle.records.specs.Answers.{sum_of}
-use Rattle.records.specs.declared.fault.Answer.{Answer}
 use Rattle.section.specs.Section.{check_answer}
 use Rattle.filling.specs.Filling.{text_sum}
 use Rattle.orders.specs.Calls.{field_text_of}

@@ -1,16 +1,15 @@
 -- What pack tells: an answer and a buffer that pack promises, and the answer's sum; and that it leaves no choice. Assumes nothing.
-use Rattle.std.specs.Prelude.{ℕ, ◌≡◌, List}
+use Rattle.pack.specs.Packing.{Packed}
+use Rattle.std.specs.Prelude.{ℕ, ◌≡◌, List, Err, Ok}
 use Rattle.std.proofs.Common.{sym, ap, ◌∙◌}
 use Rattle.records.specs.Answers.{number_of, place_bits, host_form}
 use Rattle.records.specs.Table.{Lists}
 use Rattle.pack.specs.Promise.{Packs, determined}
-use Rattle.pack.specs.declared.judge.Packed.{Packed}
-use Rattle.pack.specs.declared.judge.Packed.TheVariants as P
 
 -- a length stands in full; an index of more than 28 bits, which only lists of more than 268,435,455 entries have, as the largest
 abbrev pub pack_sum : Packed → ℕ
-pack_sum (P.Length n) = host_form 0 n 0
-pack_sum (P.Refused f i) = host_form (number_of f) (place_bits i.0) 0
+pack_sum (Ok n) = host_form 0 n 0
+pack_sum (Err r) = host_form (number_of r.fault) (place_bits r.index.0) 0
 
 module _ (count : ℕ) (k : Lists) (bytes out : List ℕ) where
   pub record ToldPack (told : ℕ) (out' : List ℕ) : Type 0 where

@@ -16,7 +16,7 @@ use fields::{field_text, fill};
 use filling::TextAnswer;
 pub use packing::hwp_pack;
 pub use reading::{hwp_read, hwp_read_docinfo, hwp_read_section};
-use records::{Answer, bits};
+use records::{Refusal, bits, host};
 use section::check;
 
 // The host's form of field text's answer: only it has a further number, the length in bytes.
@@ -24,8 +24,8 @@ fn told(answer: TextAnswer) -> u64
     ensures { result ≡ host_form (text_number answer) (place_bits (text_place answer)) (place_bits (text_length answer)) }
 {
     match answer {
-        TextAnswer::At { place, len } => Answer::Accepted(place.0).host() + 68719476736 * bits(len),
-        TextAnswer::Refused(r) => Answer::Refused(r).host(),
+        Ok(text) => host::<Refusal>(Ok(text.place.0)) + 68719476736 * bits(text.len),
+        Err(r) => host::<Refusal>(Err(r)),
     }
 }
 
@@ -34,7 +34,7 @@ fn told(answer: TextAnswer) -> u64
 pub extern "C" fn hwp_check(section: &[u8]) -> u64
     ensures { result ≡ sum_of (check_answer section.now) }
 {
-    check(section).host()
+    host(check(section))
 }
 
 // Where the text of the field with the id starts, and how many bytes it has.
@@ -50,6 +50,5 @@ pub extern "C" fn hwp_field_text(section: &[u8], id: u32) -> u64
 pub extern "C" fn hwp_fill(section: &[u8], id: u32, value: &[u8], sheet: &mut [u8]) -> u64
     ensures { ToldFill section.now id value.now sheet.old result sheet.new }
 {
-    let answer = fill(section, id, value, sheet);
-    answer.host()
+    host(fill(section, id, value, sheet))
 }

@@ -1,36 +1,90 @@
-// The three reads: they differ in the answer alone, and one function reads for all.
-ghost use Rattle.std.specs.Prelude.{◌≡◌};
+// The three reads: they differ in their rules alone, and one function reads for all. C lends each list by itself.
+ghost use Rattle.std.specs.Prelude.{◌≡◌, ◌≤◌, ℕ, List, Ok};
+ghost use Rattle.numbers.specs.Little.{Bytes};
+ghost use Rattle.records.specs.Records.{limit};
+ghost use Rattle.records.specs.Answers.{Answer, place};
 ghost use Rattle.records.specs.Table.{read_answer, lists};
 ghost use Rattle.docinfo.specs.DocInfo.{docinfo_answer};
 ghost use Rattle.section.specs.Section.{section_answer};
-ghost use Rattle.host.specs.ToldTable.{answers_by, ToldTable};
+ghost use Rattle.host.specs.ToldTable.{ToldTable};
 
 use docinfo::check_docinfo;
-use records::{Answer, enter, room, scan};
+use records::{Answer, Columns, enter, host, scan};
 use section::answer_within;
 
 // The rules that a stream is read by.
-#[derive(Clone, Copy)]
-pub enum Rules {
-    Records,
-    Section,
-    DocInfo,
+pub trait Rules {
+    ghost answers: { List ℕ → ℕ → Answer };
+
+    // What a read by these rules answers where the shortest list has `room` entries.
+    fn answer(stream: &[u8], room: usize) -> Answer
+        ensures { result ≡ answers stream.now room };
+
+    // No rules accept what read refuses.
+    ghost stricter: { (s : List ℕ) (room n : ℕ) → answers s room ≡ Ok n → read_answer s room ≡ Ok n };
+
+    // Every place is within the limit.
+    ghost near: { (s : List ℕ) (room : ℕ) → Bytes s → place (answers s room) ≤ limit };
 }
 
-// What a read by these rules answers where the shortest list has `room` entries.
-fn answer_by(rules: Rules, stream: &[u8], room: usize) -> Answer
-    ensures { result ≡ answers_by rules stream.now room }
-{
-    match rules {
-        Rules::Records => scan(stream, room),
-        Rules::Section => answer_within(stream, room),
-        Rules::DocInfo => check_docinfo(stream, room),
+// The rules of records alone.
+#[derive(Clone, Copy)]
+pub struct Plain;
+
+// The rules of a section.
+#[derive(Clone, Copy)]
+pub struct Section;
+
+// The rules of DocInfo.
+#[derive(Clone, Copy)]
+pub struct DocInfo;
+
+impl Rules for Plain {
+    ghost use Rattle.records.proofs.ScanLaws.{answer_near};
+
+    ghost answers = { read_answer };
+
+    ghost stricter = { λ s room n e. e };
+
+    ghost near = { answer_near };
+
+    fn answer(stream: &[u8], room: usize) -> Answer {
+        scan(stream, room)
+    }
+}
+
+impl Rules for Section {
+    ghost use Rattle.section.proofs.NearLaws.{section_near};
+    ghost use Rattle.section.proofs.SectionLaws.{section_accepted};
+
+    ghost answers = { section_answer };
+
+    ghost stricter = { section_accepted };
+
+    ghost near = { section_near };
+
+    fn answer(stream: &[u8], room: usize) -> Answer {
+        answer_within(stream, room)
+    }
+}
+
+impl Rules for DocInfo {
+    ghost use Rattle.docinfo.proofs.AnswerLaws.{answer_accepted};
+    ghost use Rattle.docinfo.proofs.NearLaws.{docinfo_near};
+
+    ghost answers = { docinfo_answer };
+
+    ghost stricter = { answer_accepted };
+
+    ghost near = { docinfo_near };
+
+    fn answer(stream: &[u8], room: usize) -> Answer {
+        check_docinfo(stream, room)
     }
 }
 
 // A read by these rules: its answer, and its table where it accepts.
-fn read_by(
-    rules: Rules,
+fn read_by<R: Rules>(
     stream: &[u8],
     tags: &mut [u32],
     levels: &mut [u32],
@@ -38,11 +92,18 @@ fn read_by(
     lengths: &mut [u32],
     parents: &mut [u32],
 ) -> u64
-    ensures { ToldTable (answers_by rules) stream.now (lists tags.old levels.old places.old lengths.old parents.old) result (lists tags.new levels.new places.new lengths.new parents.new) }
+    ensures { ToldTable R.answers stream.now (lists tags.old levels.old places.old lengths.old parents.old) result (lists tags.new levels.new places.new lengths.new parents.new) }
 {
-    let answer = answer_by(rules, stream, room(tags, levels, places, lengths, parents));
-    enter(stream, answer, tags, levels, places, lengths, parents);
-    answer.host()
+    let mut columns = Columns {
+        tags,
+        levels,
+        places,
+        lengths,
+        parents,
+    };
+    let answer = R::answer(stream, columns.room());
+    enter(stream, answer, &mut columns);
+    host(answer)
 }
 
 // Read, records only.
@@ -57,15 +118,7 @@ pub extern "C" fn hwp_read(
 ) -> u64
     ensures { ToldTable read_answer stream.now (lists tags.old levels.old places.old lengths.old parents.old) result (lists tags.new levels.new places.new lengths.new parents.new) }
 {
-    read_by(
-        Rules::Records,
-        stream,
-        tags,
-        levels,
-        places,
-        lengths,
-        parents,
-    )
+    read_by::<Plain>(stream, tags, levels, places, lengths, parents)
 }
 
 // The section read.
@@ -80,15 +133,7 @@ pub extern "C" fn hwp_read_section(
 ) -> u64
     ensures { ToldTable section_answer stream.now (lists tags.old levels.old places.old lengths.old parents.old) result (lists tags.new levels.new places.new lengths.new parents.new) }
 {
-    read_by(
-        Rules::Section,
-        stream,
-        tags,
-        levels,
-        places,
-        lengths,
-        parents,
-    )
+    read_by::<Section>(stream, tags, levels, places, lengths, parents)
 }
 
 // The DocInfo read.
@@ -103,13 +148,5 @@ pub extern "C" fn hwp_read_docinfo(
 ) -> u64
     ensures { ToldTable docinfo_answer stream.now (lists tags.old levels.old places.old lengths.old parents.old) result (lists tags.new levels.new places.new lengths.new parents.new) }
 {
-    read_by(
-        Rules::DocInfo,
-        stream,
-        tags,
-        levels,
-        places,
-        lengths,
-        parents,
-    )
+    read_by::<DocInfo>(stream, tags, levels, places, lengths, parents)
 }

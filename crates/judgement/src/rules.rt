@@ -1,141 +1,96 @@
 // The rules on numbers and lengths: 10, 11 and 13.
-ghost use Rattle.std.specs.Prelude.{◌≡◌};
+ghost use Rattle.std.specs.Prelude.{Err, Ok, ◌≡◌, ◌*◌};
 ghost use Rattle.paragraph.specs.Rules as rules;
 ghost use Rattle.paragraph.specs.Places.{length_found, lengths_found};
 ghost use Rattle.paragraph.specs.declared.finding.Which.TheVariants as W;
-ghost use Rattle.paragraph.specs.declared.finding.Finding.TheVariants as G;
 ghost use Rattle.records.specs.declared.fault.Fault.TheVariants as F;
 
-use entries::{Entries, judge_marks, judge_shapes};
-use paragraph::{Counts, Finding, Found, Parts, Which};
-use records::{Fault, Kind, Offset};
-use text::Position;
+use entries::{judge_marks, judge_shapes};
+use paragraph::{Breach, Counts, Finding, Parts, Which};
+use records::{Fault, Kind, Offset, Record};
 
-// A fault that names the child with a tag.
-pub fn of_child(tag: u32, fault: Fault) -> Finding
-    ensures { result ≡ rules.of_child tag fault }
+// A rule is broken where the test holds: the fault, and what it names.
+#[tactic(auto, unfolding(paragraph::specs::Rules::guard))]
+pub fn broken_if(test: bool, fault: Fault, which: Which) -> Finding
+    ensures { result ≡ rules.guard test (Err (rules.breach fault which)) (Ok tt) }
 {
-    Finding::Breach {
-        fault,
-        which: Which::Child { tag, nth: 0 },
+    if test {
+        Err(Breach { fault, which })
+    } else {
+        Ok(())
     }
 }
 
-// A fault that names the paragraph header.
-pub fn of_header(fault: Fault) -> Finding
-    ensures { result ≡ rules.of_header fault }
-{
-    Finding::Breach {
-        fault,
-        which: Which::Header,
-    }
-}
-
-fn lacks(least: u32, number: u32, f: Found) -> bool
+// A record is absent that is needed where its number is at least `least`.
+fn lacks(least: u32, number: u32, f: Option<Record>) -> bool
     ensures { result ≡ rules.lacks least number (length_found f) }
 {
-    match f {
-        Found::At(_) => false,
-        Found::Nothing => least <= number,
-    }
+    f.is_none() && least <= number
 }
 
 // 10.
+#[tactic(auto, unfolding(paragraph::specs::Rules::absent))]
 pub fn absent(c: Counts, p: Parts) -> bool
     ensures { result ≡ rules.absent c (lengths_found p) }
 {
-    let text = p.text;
-    let shapes = p.shapes;
-    let layout = p.layout;
-    let marks = p.marks;
-    if lacks(2, c.count, text) {
-        return true;
-    }
-    if lacks(0, c.shapes, shapes) {
-        return true;
-    }
-    if lacks(1, c.lines, layout) {
-        return true;
-    }
-    lacks(1, c.marks, marks)
+    lacks(2, c.count, p.text)
+        || lacks(0, c.shapes, p.shapes)
+        || lacks(1, c.lines, p.layout)
+        || lacks(1, c.marks, p.marks)
 }
 
-fn unwanted(number: u32, f: Found) -> bool
+// A record is present though its number is 0.
+fn unwanted(number: u32, f: Option<Record>) -> bool
     ensures { result ≡ rules.unwanted number (length_found f) }
 {
-    match f {
-        Found::At(_) => number == 0,
-        Found::Nothing => false,
-    }
+    f.is_some() && number == 0
 }
 
-fn misfits(number: u32, asked: u64, f: Found) -> bool
-    ensures { result ≡ rules.misfits number asked (length_found f) }
+// A record is present, and its number is 0 or asks for another number of bytes, so many for each.
+fn misfits(number: u32, each: u32, f: Option<Record>) -> bool
+    ensures { result ≡ rules.misfits number (each * number) (length_found f) }
 {
-    match f {
-        Found::At(p) => {
-            let len = p.len as u64;
-            if number == 0 {
-                return true;
-            }
-            len != asked
-        }
-        Found::Nothing => false,
-    }
+    f.is_some_and(|r| number == 0 || r.len as u64 != each as u64 * number as u64)
+}
+
+// 11 of the first child with a tag.
+fn wrong_if(test: bool, tag: u32) -> Finding
+    ensures { result ≡ rules.guard test (rules.of_child tag F.LengthWrong) (Ok tt) }
+{
+    broken_if(test, Fault::LengthWrong, Which::Child { tag, nth: 0 })
 }
 
 // 11, in tag order.
+#[tactic(auto, unfolding(paragraph::specs::Rules::length_fault, paragraph::specs::Rules::guard))]
 pub fn length_fault(c: Counts, p: Parts) -> Finding
     ensures { result ≡ rules.length_fault c (lengths_found p) }
 {
-    let text = p.text;
-    let shapes = p.shapes;
-    let layout = p.layout;
-    let marks = p.marks;
-    if misfits(c.count, 2 * (c.count as u64), text) {
-        return of_child(Kind::TEXT, Fault::LengthWrong);
-    }
-    if misfits(c.shapes, 8 * (c.shapes as u64), shapes) {
-        return of_child(Kind::SHAPES, Fault::LengthWrong);
-    }
-    if unwanted(c.lines, layout) {
-        return of_child(Kind::LAYOUT, Fault::LengthWrong);
-    }
-    if misfits(c.marks, 12 * (c.marks as u64), marks) {
-        return of_child(Kind::MARKS, Fault::LengthWrong);
-    }
-    Finding::Lawful
-}
-
-// 12 names the unit at a position of the text.
-pub fn of_unit(position: Position) -> Finding
-    ensures { result ≡ G.Breach F.TextRule (W.Unit position) }
-{
-    Finding::Breach {
-        fault: Fault::TextRule,
-        which: Which::Unit(position),
-    }
+    wrong_if(misfits(c.count, 2, p.text), Kind::TEXT)?;
+    wrong_if(misfits(c.shapes, 8, p.shapes), Kind::SHAPES)?;
+    wrong_if(unwanted(c.lines, p.layout), Kind::LAYOUT)?;
+    wrong_if(misfits(c.marks, 12, p.marks), Kind::MARKS)
 }
 
 // 13 names the entry that begins at an offset of the body of the child with a tag.
 fn of_entry(tag: u32, from: Offset) -> Finding
-    ensures { result ≡ G.Breach F.EntriesWrong (W.Entry tag from) }
+    ensures { result ≡ Err (rules.breach F.EntriesWrong (W.Entry tag from)) }
 {
-    Finding::Breach {
+    Err(Breach {
         fault: Fault::EntriesWrong,
         which: Which::Entry { tag, from },
-    }
+    })
 }
 
 // 13, shapes and then marks.
+#[tactic(auto, using(crate::proofs::RuleLaws::entry_laws), unfolding(paragraph::specs::Rules::entry_fault, paragraph::specs::Rules::guard_at))]
 pub fn entry_fault(count: u32, shapes: &[u8], marks: &[u8]) -> Finding
     ensures { result ≡ rules.entry_fault count shapes.now marks.now }
 {
-    if let Entries::Wrong(i) = judge_shapes(shapes, count) {
+    if let Some(i) = judge_shapes(shapes, count) {
         return of_entry(Kind::SHAPES, Offset(8 * i));
     }
-    if let Entries::Wrong(i) = judge_marks(marks, count) {
+    if let Some(i) = judge_marks(marks, count) {
         return of_entry(Kind::MARKS, Offset(12 * i));
     }
-    Finding::Lawful
+    Ok(())
 }

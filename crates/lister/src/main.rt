@@ -4,9 +4,10 @@
 
 ghost use Rattle.std.specs.Prelude.{◌≤◌, length, IfOk};
 
-use records::{Ahead, Answer, Fault, Offset, Record, Refusal, record_at};
-use std::io;
+use records::{Fault, Offset, Record, Refusal, records_of};
+use section::check;
 use std::io::Read;
+use std::{fmt, io};
 
 // As much of standard input as there is room for.
 fn read_full(rt: &impl Input, section: &mut [u8]) -> io::Result<usize>
@@ -14,6 +15,7 @@ fn read_full(rt: &impl Input, section: &mut [u8]) -> io::Result<usize>
 {
     let mut reader = rt.reader();
     let mut n: usize = 0;
+    // No `for`: how often it reads is up to the reader.
     while n < section.len() {
         let more = reader.read(&mut section[n..])?;
         if more == 0 {
@@ -24,12 +26,19 @@ fn read_full(rt: &impl Input, section: &mut [u8]) -> io::Result<usize>
     Ok(n)
 }
 
-fn print_record(rt: &impl Print, r: Record) -> io::Result<()> {
-    let at = r.at.0;
-    let tag = r.tag;
-    let level = r.level;
-    let len = r.len;
-    println!(rt; "{at} {tag} {level} {len}")
+// A record as a line has it.
+#[derive(Clone, Copy)]
+struct Listed(Record);
+
+impl fmt::Display for Listed {
+    fn fmt<W: fmt::Write>(&self, f: &mut fmt::Formatter<W>) -> fmt::Result {
+        let r = self.0;
+        let at = r.at.0;
+        let tag = r.tag;
+        let level = r.level;
+        let len = r.len;
+        write!(f, "{at} {tag} {level} {len}")
+    }
 }
 
 fn print_refusal(rt: &impl Print, r: Refusal) -> io::Result<()> {
@@ -38,24 +47,19 @@ fn print_refusal(rt: &impl Print, r: Refusal) -> io::Result<()> {
     println!(rt; "refused {number} at {place}")
 }
 
-fn print_records(rt: &impl Print, s: &[u8]) -> io::Result<()> {
-    let mut at = Offset(0);
-    loop {
-        let Ahead::Record(r) = record_at(s, at, 1023) else {
-            return Ok(());
-        };
-        print_record(rt, r)?;
-        at = r.next;
-    }
-}
-
 fn list(rt: &impl Print, s: &[u8]) -> io::Result<()> {
-    match section::check(s) {
-        Answer::Accepted(n) => {
-            print_records(rt, s)?;
+    match check(s) {
+        Ok(n) => {
+            for item in records_of(s, Offset(0), 0) {
+                let Ok(r) = item else {
+                    break;
+                };
+                let line = Listed(r);
+                println!(rt; "{line}")?;
+            }
             println!(rt; "ok {n}")
         }
-        Answer::Refused(r) => print_refusal(rt, r),
+        Err(r) => print_refusal(rt, r),
     }
 }
 

@@ -3,11 +3,12 @@ use Prim.Native.Nat.{ℕ, zero, suc, ◌+◌, ◌-◌, ◌*◌, ◌/◌, ◌%◌
 use native.Mathlib.Omega.{arith}
 use native.Mathlib.Nat.{zero-add, div-div-eq-div-mul}
 use mir.Val.{Fits}
-use mir.Syntax.{w8}
+use mir.Syntax.{w8, w32}
+use Rattle.std.specs.Int.{from_le_bytes, to_le_bytes}
 use mathlib.Core.Path.{◌≡◌, refl, sym, ap, ap₂, ◌∙◌}
 use mathlib.Core.List.{List, [], ◌∷◌, ◌++◌}
-use lib.ListN.{length, get_or, take, drop, set, length-drop, drop_of_length-le, get_or-eq_default}
-use lib.Seq.{sets, sets-eq, get_or-drop, drop-drop, take_all, take-nil, take-length}
+use lib.ListN.{length, replicate, get_or, take, drop, length-drop}
+use lib.Seq.{sets, sets-eq, get_or-drop, drop-drop, take_all}
 use borrow.Author.Tests.{le-leb, lt-leb}
 use Rattle.numbers.specs.Little.{little, bytes_of, span, Bytes, laid}
 
@@ -16,10 +17,6 @@ use Rattle.numbers.specs.Little.{little, bytes_of, span, Bytes, laid}
 pub two : (s : List ℕ) → little 2 s ≡ get_or s 0 0 + 256 * get_or s 1 0
 unfolding little
 two s = simp get_or-drop (omega arith)
-
-pub four : (s : List ℕ) → little 4 s ≡ get_or s 0 0 + 256 * get_or s 1 0 + 65536 * get_or s 2 0 + 16777216 * get_or s 3 0
-unfolding little
-four s = simp (drop-drop, get_or-drop) (omega arith)
 
 -- ---- over the width
 
@@ -74,36 +71,57 @@ laid_not bs out h = simp (lt-leb (length bs) (length out) h)
 pub laid_sets : (bs out : List ℕ) → length bs ≤ length out → sets out 0 bs ≡ laid bs out
 laid_sets bs out h = sets-eq bs out 0 (omega arith) ∙ simp zero-add (sym (laid-fits bs out h))
 
-four_bytes : (w : ℕ) → bytes_of 4 w ≡ w % 256 ∷ w / 256 % 256 ∷ w / 65536 % 256 ∷ w / 16777216 % 256 ∷ []
+-- ---- the bytes of a word of 32 bits
+
+little_none : (k : ℕ) → little k [] ≡ 0
+unfolding little
+little_none zero = refl
+little_none (suc k) = omega (arith, little_none k)
+
+-- the first n bytes alone, read as a longer number
+pub little_front : (n k : ℕ) (s : List ℕ) → n ≤ k → little k (take n s) ≡ little n s
+unfolding little
+little_front zero k s h = little_none k
+little_front (suc n) zero s h = absurd (omega arith)
+little_front (suc n) (suc k) [] h = omega (arith, little_none k, little_none n)
+little_front (suc n) (suc k) (x ∷ s) h = ap (λ m. x + 256 * m) (little_front n k s (omega arith))
+
+pub little_part : (n at : ℕ) (s : List ℕ) → little n (take n (drop at s)) ≡ little n (drop at s)
+little_part n at s = little_front n n (drop at s) (omega arith)
+
+-- so too all bytes, where there are no more than n
+pub little_short : (n k : ℕ) (s : List ℕ) → n ≤ k → length s < n → little k s ≡ little n s
+little_short n k s h short =
+    let all : take n s ≡ s = take_all n s (omega arith) in
+    sym (ap (little k) all) ∙ little_front n k s h
+
+padded : (k : ℕ) (s : List ℕ) → little k (s ++ drop (length s) (replicate k 0)) ≡ little k s
+unfolding little
+padded zero s = refl
+padded (suc k) [] = ap (λ m. 0 + 256 * m) (padded k [])
+padded (suc k) (x ∷ s) = ap (λ m. x + 256 * m) (padded k s)
+
+word : (bs : List ℕ) → from_le_bytes w32 bs ≡ little 4 bs
+unfolding little
+word bs = simp (drop-drop, get_or-drop) (omega arith)
+
+-- what bytes in front of zeros make
+pub word_padded : (s copy : List ℕ) → copy ≡ s → from_le_bytes w32 (copy ++ drop (length s) (replicate 4 0)) ≡ little 4 s
+word_padded s copy e = rw e (word (s ++ drop (length s) (replicate 4 0)) ∙ padded 4 s)
+
+take_bytes : (n k w : ℕ) → n ≤ k → take n (bytes_of k w) ≡ bytes_of n w
 unfolding bytes_of
-four_bytes w = simp (div-div-eq-div-mul w 256 256, div-div-eq-div-mul w 65536 256)
+take_bytes zero k w h = refl
+take_bytes (suc n) zero w h = absurd (omega arith)
+take_bytes (suc n) (suc k) w h = ap (λ (bs : List ℕ). w % 256 ∷ bs) (take_bytes n k (w / 256) (omega arith))
 
-pub put_two : (w : ℕ) (out : List ℕ) → 2 ≤ length out → set (set out 0 (w % 256)) 1 (w / 256 % 256) ≡ laid (bytes_of 2 w) out
+word_bytes : (w : ℕ) → to_le_bytes w32 w ≡ bytes_of 4 w
 unfolding bytes_of
-put_two w out h = laid_sets (bytes_of 2 w) out h
+word_bytes w = simp (div-div-eq-div-mul w 256 256, div-div-eq-div-mul w 65536 256)
 
-pub put_four : (w : ℕ) (out : List ℕ) → 4 ≤ length out
-    → set (set (set (set out 0 (w % 256)) 1 (w / 256 % 256)) 2 (w / 65536 % 256)) 3 (w / 16777216 % 256) ≡ laid (bytes_of 4 w) out
-put_four w out h = rw (four_bytes w) (laid_sets (w % 256 ∷ w / 256 % 256 ∷ w / 65536 % 256 ∷ w / 16777216 % 256 ∷ []) out h)
-
-pub put_none : (n w : ℕ) (out : List ℕ) → length out < n → out ≡ laid (bytes_of n w) out
-put_none n w out h = sym (laid_not (bytes_of n w) out (rw length-bytes_of h))
-
--- ---- where bytes are lacking
-
-pub two_short : (s : List ℕ) → length s < 2 → little 2 s ≡ get_or s 0 0
-two_short s h =
-    let none : get_or s 1 0 ≡ 0 = get_or-eq_default s 0 (omega arith) in
-    omega (arith, two s)
-
-pub four_short : (s : List ℕ) → length s < 4 → little 4 s ≡ get_or s 0 0 + 256 * get_or s 1 0 + 65536 * get_or s 2 0
-four_short s h =
-    let none : get_or s 3 0 ≡ 0 = get_or-eq_default s 0 (omega arith) in
-    omega (arith, four s)
-
--- what a copy leaves
-pub copied : (s out copy : List ℕ) → length s ≤ length out → copy ≡ take (length s) s ++ drop (length s) out → copy ≡ laid s out
-copied s out copy h e = e ∙ simp take-length (sym (laid-fits s out h))
+-- the lowest n bytes of a word
+pub lowest : (n w : ℕ) → n ≤ 4 → take n (to_le_bytes w32 w) ≡ bytes_of n w
+lowest n w h = rw (word_bytes w) (take_bytes n 4 w h)
 
 -- a part of a slice that goes to its end
 pub part_rest : (s : List ℕ) (a : ℕ) → take (length s - a) (drop a s) ≡ drop a s
@@ -112,17 +130,3 @@ part_rest s a = take_all (length s - a) (drop a s) (omega (arith, length-drop a 
 -- what a slice of bytes holds
 pub slice_bytes : (s : List ℕ) → ((i : ℕ) → Fits w8 (get_or s i 0)) → Bytes s
 slice_bytes s fits i = let h = fits i in omega arith
-
--- ---- a part that may reach past the end
-
-module _ (s : List ℕ) (start n : ℕ) where
-  pub clip_none : length s ≤ start → [] ≡ take n (drop start s)
-  clip_none h = rw (drop_of_length-le s h) (sym (take-nil n))
-
-  pub clip_rest : length s - start ≤ n → take (length s - start) (drop start s) ≡ take n (drop start s)
-  clip_rest h =
-      let l = length-drop start s in
-      take_all (length s - start) (drop start s) (omega arith) ∙ sym (take_all n (drop start s) (omega arith))
-
-  pub clip_whole : take (start + n - start) (drop start s) ≡ take n (drop start s)
-  clip_whole = let e : start + n - start ≡ n = omega arith in rw e

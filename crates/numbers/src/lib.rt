@@ -1,79 +1,66 @@
-// Numbers of 16 and 32 bits at the front of a slice, the lowest byte first; and parts of a slice.
+// Numbers in the bytes at the front of a slice, the lowest byte first; and parts of a slice.
 #![tactic(auto)]
 
-ghost use Rattle.std.specs.Prelude.{◌≡◌, ◌<◌, min, get_or, take, drop};
+ghost use Rattle.std.specs.Prelude.{◌≡◌, ◌<◌, ◌≤◌, length, take, drop};
 ghost use Rattle.numbers.specs.Little.{little, bytes_of, laid};
 
-fn of_byte(x: u8) -> u32
-    ensures { (result ≡ x) × (result < 256) }
-{
-    x as u32
-}
-
-// 32 bits as a number that counts and indexes.
+// 32 bits as a number that counts and indexes; Rust has no `From` for it.
+#[inline]
 pub fn wide(x: u32) -> usize
     ensures { (result ≡ x) × (result < 4294967296) }
 {
     x as usize
 }
 
-// The lesser of two numbers.
-pub fn lesser(a: usize, b: usize) -> usize
-    ensures { result ≡ min a b }
-{
-    if a < b { a } else { b }
-}
-
-// The byte at i, or 0 where there is none.
-fn byte(s: &[u8], i: usize) -> u32
-    ensures { (result ≡ get_or s.now i 0) × (result < 256) }
-{
-    if i < s.len() { of_byte(s[i]) } else { 0 }
-}
-
-// The 16 bits at the front of s.
-pub fn number16(s: &[u8]) -> u32
-    ensures { result ≡ little 2 s.now }
-{
-    if s.len() < 2 {
-        return byte(s, 0);
-    }
-    of_byte(s[0]) + 256 * of_byte(s[1])
-}
-
-// The 32 bits at the front of s.
-pub fn number32(s: &[u8]) -> u32
+// The number in all bytes of s, the lowest byte first.
+#[inline]
+#[tactic(auto, using(crate::proofs::LittleLaws::word_padded))]
+fn whole(s: &[u8]) -> u32
+    requires { length s.now ≤ 4 }
     ensures { result ≡ little 4 s.now }
 {
-    if s.len() < 4 {
-        return byte(s, 0) + 256 * byte(s, 1) + 65536 * byte(s, 2);
-    }
-    of_byte(s[0]) + 256 * of_byte(s[1]) + 65536 * of_byte(s[2]) + 16777216 * of_byte(s[3])
+    let mut bytes = [0; 4];
+    bytes[..s.len()].copy_from_slice(s);
+    u32::from_le_bytes(bytes)
 }
 
-// Writes 16 bits at the front of out; where there is no room nothing is written.
-pub fn put16(out: &mut [u8], w: u32)
-    ensures { out.new ≡ laid (bytes_of 2 w) out.old }
+// The number in the first N bytes of s, the lowest byte first; a byte that is not there counts as 0. What asks for N here and above asks that 32
+// bits hold it: a const parameter has no type of its own that could say so.
+#[inline]
+#[tactic(auto, using(crate::proofs::LittleLaws::little_front, crate::proofs::LittleLaws::little_short))]
+pub fn little<const N: usize>(s: &[u8]) -> u32
+    requires { N ≤ 4 }
+    ensures { result ≡ little N s.now }
 {
-    if 2 <= out.len() {
-        out[0] = (w % 256) as u8;
-        out[1] = (w / 256 % 256) as u8;
+    match s.first_chunk::<N>() {
+        Some(front) => whole(front),
+        None => whole(s),
     }
 }
 
-// Writes 32 bits at the front of out; where there is no room nothing is written.
-pub fn put32(out: &mut [u8], w: u32)
-    ensures { out.new ≡ laid (bytes_of 4 w) out.old }
+// The number in the N bytes from `at` on; a byte that is not there counts as 0.
+#[inline]
+#[tactic(auto, using(crate::proofs::LittleLaws::little_part))]
+pub fn little_at<const N: usize>(s: &[u8], at: usize) -> u32
+    requires { N ≤ 4 }
+    ensures { result ≡ little N (drop at s.now) }
 {
-    if 4 <= out.len() {
-        out[0] = (w % 256) as u8;
-        out[1] = (w / 256 % 256) as u8;
-        out[2] = (w / 65536 % 256) as u8;
-        out[3] = (w / 16777216 % 256) as u8;
-    }
+    little::<N>(part(s, at, N))
+}
+
+// Writes the N lowest bytes of a number at the front of out, the lowest first; where there is no room nothing is written.
+#[inline]
+#[tactic(auto, using(crate::proofs::LittleLaws::lowest))]
+pub fn put_little<const N: usize>(out: &mut [u8], w: u32)
+    requires { N ≤ 4 }
+    ensures { out.new ≡ laid (bytes_of N w) out.old }
+{
+    put_all(out, &w.to_le_bytes()[..N]);
 }
 
 // Copies s to the front of out; where there is no room nothing is written.
+#[inline]
+#[tactic(auto, unfolding(crate::specs::Little::laid))]
 pub fn put_all(out: &mut [u8], s: &[u8])
     ensures { out.new ≡ laid s.now out.old }
 {
@@ -83,16 +70,10 @@ pub fn put_all(out: &mut [u8], s: &[u8])
 }
 
 // Of the bytes from `from` on the first n, as far as there are any.
+#[inline]
 pub fn part<'a>(s: &'a [u8], from: usize, n: usize) -> &'a [u8]
     ensures { result.now ≡ take n (drop from s.now) }
 {
-    if s.len() < from {
-        return &s[0..0];
-    }
-    let left = s.len() - from;
-    if left < n {
-        return &s[from..];
-    }
-    let end = from + n;
-    &s[from..end]
+    let rest = &s[from.min(s.len())..];
+    &rest[..n.min(rest.len())]
 }

@@ -1,7 +1,7 @@
 -- Check accepts a stream exactly if it is the encoding of the records of an accepted section. Assumes nothing.
+use Rattle.std.specs.Prelude.{None, Ok}
 use mathlib.Core.Path.{◌≡◌, refl}
 use Prim.Native.Nat.{ℕ}
-use mathlib.Core.Option.{none}
 use mathlib.Core.List.{List, [], ◌∷◌, ◌++◌}
 use lib.ListN.{length}
 use lib.Seq.{drop_at, take_at}
@@ -9,7 +9,6 @@ use Rattle.numbers.specs.Little.{Bytes}
 use Rattle.numbers.proofs.LittleLaws.{bytes_drop, bytes_take}
 use Rattle.records.specs.Records.{Rec, header_of, encode_one, encode}
 use Rattle.records.specs.Reading.{read_all}
-use Rattle.records.specs.declared.fault.Answer.TheVariants as A
 use Rattle.records.proofs.Reader.{stream_records}
 use Rattle.section.specs.Section.{check_answer}
 use Rattle.acceptance.proofs.SectionReader.{accepted_section, section_is_accepted}
@@ -37,7 +36,7 @@ pub record Checked (s : List ℕ) : Type 0 where
   pub accepted : Accepted (read_all s).recs
   pub stream : encode (read_all s).recs ≡ s
 
-pub checked : (s : List ℕ) (n : ℕ) → Bytes s → check_answer s ≡ A.Accepted n → Checked s
+pub checked : (s : List ℕ) (n : ℕ) → Bytes s → check_answer s ≡ Ok n → Checked s
 checked s n bs e =
     let k = accepted_section s n bs e in
     record {
@@ -53,8 +52,8 @@ checked s n bs e =
       stream = k.encodes.stream;
     }
 
-pub read_back : (rs : List Rec) → Accepted rs → read_all (encode rs) ≡ record { recs = rs; stop = none }
+pub read_back : (rs : List Rec) → Accepted rs → read_all (encode rs) ≡ record { recs = rs; stop = None }
 read_back rs a = stream_records (encode rs) rs a.section.encodes
 
-pub checks : (rs : List Rec) → Accepted rs → check_answer (encode rs) ≡ A.Accepted (length rs)
+pub checks : (rs : List Rec) → Accepted rs → check_answer (encode rs) ≡ Ok (length rs)
 checks rs a = section_is_accepted (encode rs) (length rs) rs a.section

@@ -1,4 +1,5 @@
 -- Fill over a stream by its definition, as the theorems over its promise (Promises) use it: two fills of different ids give the same sheet in both turns; where one turn is accepted, the other is stopped by 25 or 26 only. Assumes nothing.
+use Rattle.std.specs.Prelude.{Err, Ok}
 use mathlib.Core.Path.{◌≡◌, refl, sym, ap, ◌∙◌}
 use mathlib.Core.Logic.{◌⊎◌, inl, inr}
 use Prim.Native.Nat.{ℕ, ◌≤◌}
@@ -9,10 +10,8 @@ use lib.ListN.{length}
 use Rattle.numbers.specs.Little.{Bytes}
 use Rattle.records.specs.Records.{Rec, limit, encode}
 use Rattle.records.specs.Reading.{read_all}
-use Rattle.records.specs.Answers.{refused_at}
+use Rattle.records.specs.Answers.{refused_at, Answer}
 use Rattle.records.specs.declared.fault.Fault.{Fault}
-use Rattle.records.specs.declared.fault.Answer.{Answer}
-use Rattle.records.specs.declared.fault.Answer.TheVariants as A
 use Rattle.text.proofs.Cases.{lt_or}
 use Rattle.section.specs.Section.{check_answer}
 use Rattle.filling.specs.Search.{Hit, Outcome, one, refused}
@@ -36,13 +35,13 @@ module _ (id : ℕ) (w : List ℕ) (rs : List Rec) (room : ℕ) where
   unfolding fill_answer
   answer_refused f p e = rw (e, fill_answer)
 
-  bytes_one : (h : Hit) (n : ℕ) → fillable id w rs ≡ one h → fits (length (encode (filled h w rs))) room ≡ A.Accepted n
+  bytes_one : (h : Hit) (n : ℕ) → fillable id w rs ≡ one h → fits (length (encode (filled h w rs))) room ≡ Ok n
       → fill_bytes id w rs room ≡ encode (filled h w rs)
   unfolding fill_bytes sheet
   bytes_one h n e q = rw (e, fill_bytes, q)
 
 -- a sheet fits, or it lacks room
-fits_or : (n room : ℕ) → ((fits n room ≡ A.Accepted n) × (n ≤ limit)) ⊎ (lacks_room (fits n room) ≡ true)
+fits_or : (n room : ℕ) → ((fits n room ≡ Ok n) × (n ≤ limit)) ⊎ (lacks_room (fits n room) ≡ true)
 fits_or n room = elim (lt_or limit n) [
   | inl h ↦ inr (rw (fits_not n room h))
   | inr h ↦ elim (lt_or room n) [
@@ -51,7 +50,7 @@ fits_or n room = elim (lt_or limit n) [
   ]
 ]
 
-pub fits_accepted : (n m room : ℕ) → fits n room ≡ A.Accepted m → (m ≡ n) × (n ≤ limit)
+pub fits_accepted : (n m room : ℕ) → fits n room ≡ Ok m → (m ≡ n) × (n ≤ limit)
 fits_accepted n m room e = elim (lt_or limit n) [
   | inl h ↦ absurd (let q = fits_not n room h in let z : ◌≡◌ {A = ℕ} 0 1 = cc in omega arith)
   | inr h ↦ elim (lt_or room n) [
@@ -68,12 +67,12 @@ pub record Made (id : ℕ) (w : List ℕ) (rs : List Rec) (room n : ℕ) : Type 
   pub short : length (encode (filled hit w rs)) ≤ limit
   pub bytes : fill_bytes id w rs room ≡ encode (filled hit w rs)
 
-pub was_made : (id : ℕ) (w : List ℕ) (rs : List Rec) (room n : ℕ) → fill_answer id w rs room ≡ A.Accepted n → Made id w rs room n
+pub was_made : (id : ℕ) (w : List ℕ) (rs : List Rec) (room n : ℕ) → fill_answer id w rs room ≡ Ok n → Made id w rs room n
 was_made id w rs room n e = go (fillable id w rs) refl
   where
     go : (o : Outcome) → fillable id w rs ≡ o → Made id w rs room n
     go (one h) q =
-        let a : fits (length (encode (filled h w rs))) room ≡ A.Accepted n = sym (answer_one id w rs room h q) ∙ e in
+        let a : fits (length (encode (filled h w rs))) room ≡ Ok n = sym (answer_one id w rs room h q) ∙ e in
         let f = fits_accepted (length (encode (filled h w rs))) n room a in
         record { hit = h; found = q; number = f.0; short = f.1; bytes = bytes_one id w rs room h n q a }
     go (refused f p) q = absurd (let a = answer_refused id w rs room f p q in let z : ◌≡◌ {A = ℕ} 0 1 = cc in omega arith)
@@ -90,13 +89,13 @@ module _ (rs : List Rec) (a : Accepted rs) (id : ℕ) (w : List ℕ) (room : ℕ
   sheet-is = rw (checks rs a, read_back rs a, sheet_of)
 
 -- an accepted call is over the encoding of an accepted section
-section_of : (s : List ℕ) (id : ℕ) (w : List ℕ) (room n : ℕ) → Bytes s → fill_of s id w room ≡ A.Accepted n → Checked s
+section_of : (s : List ℕ) (id : ℕ) (w : List ℕ) (room n : ℕ) → Bytes s → fill_of s id w room ≡ Ok n → Checked s
 unfolding fill_of
 section_of s id w room n bs e = go (check_answer s) refl e
   where
-    go : (c : Answer) → check_answer s ≡ c → after_section c (fill_answer id w (read_all s).recs room) ≡ A.Accepted n → Checked s
-    go (A.Accepted m) q d = checked s m bs q
-    go (A.Refused r) q d = absurd (let z : ◌≡◌ {A = ℕ} 0 1 = cc in omega arith)
+    go : (c : Answer) → check_answer s ≡ c → after_section c (fill_answer id w (read_all s).recs room) ≡ Ok n → Checked s
+    go (Ok m) q d = checked s m bs q
+    go (Err r) q d = absurd (let z : ◌≡◌ {A = ℕ} 0 1 = cc in omega arith)
 
 -- ---- over the records of an accepted section
 
@@ -136,10 +135,10 @@ pub record Call (s : List ℕ) (id : ℕ) (w : List ℕ) (room n : ℕ) : Type 0
   pub fill : Made id w rs room n
   pub sheet : sheet_of s id w room ≡ encode (filled fill.hit w rs)
 
-pub call : (s : List ℕ) (id : ℕ) (w : List ℕ) (room n : ℕ) → Bytes s → fill_of s id w room ≡ A.Accepted n → Call s id w room n
+pub call : (s : List ℕ) (id : ℕ) (w : List ℕ) (room n : ℕ) → Bytes s → fill_of s id w room ≡ Ok n → Call s id w room n
 call s id w room n bs e =
     let c = section_of s id w room n bs e in
-    let k : fill_answer id w (read_all s).recs room ≡ A.Accepted n
+    let k : fill_answer id w (read_all s).recs room ≡ Ok n
     = sym (call_is (read_all s).recs c.accepted id w room) ∙ ap (λ (t : List ℕ). fill_of t id w room) c.stream ∙ e in
     let f = was_made id w (read_all s).recs room n k in
     record {
@@ -152,15 +151,15 @@ call s id w room n bs e =
 
 -- two fills, one after the other, the second over the first one's sheet
 pub record InTurn (s : List ℕ) (id : ℕ) (w : List ℕ) (id' : ℕ) (u : List ℕ) (room room' n n' : ℕ) : Type 0 where
-  pub first : fill_of s id w room ≡ A.Accepted n
-  pub second : fill_of (sheet_of s id w room) id' u room' ≡ A.Accepted n'
+  pub first : fill_of s id w room ≡ Ok n
+  pub second : fill_of (sheet_of s id w room) id' u room' ≡ Ok n'
 
 -- what the other order comes to: refused by 25 or 26, or accepted with the same sheet of the same length
 pub data OtherTurn (s : List ℕ) (id : ℕ) (w : List ℕ) (id' : ℕ) (u : List ℕ) (room room' n' : ℕ) (made : List ℕ) : Type 0 where
   first_lacks : lacks_room (fill_of s id' u room) ≡ true → OtherTurn s id w id' u room room' n' made
-  second_lacks : (m : ℕ) → fill_of s id' u room ≡ A.Accepted m → lacks_room (fill_of (sheet_of s id' u room) id w room') ≡ true
+  second_lacks : (m : ℕ) → fill_of s id' u room ≡ Ok m → lacks_room (fill_of (sheet_of s id' u room) id w room') ≡ true
       → OtherTurn s id w id' u room room' n' made
-  accepted : (m : ℕ) → fill_of s id' u room ≡ A.Accepted m → fill_of (sheet_of s id' u room) id w room' ≡ A.Accepted n'
+  accepted : (m : ℕ) → fill_of s id' u room ≡ Ok m → fill_of (sheet_of s id' u room) id w room' ≡ Ok n'
       → sheet_of (sheet_of s id' u room) id w room' ≡ made → OtherTurn s id w id' u room room' n' made
 
 module _ (s : List ℕ) (id id' : ℕ) (ne : id ≡ id' → ⊥) (w u : List ℕ) (bs : Bytes s) (bw : Bytes w) (bu : Bytes u) where
@@ -175,7 +174,7 @@ module _ (s : List ℕ) (id id' : ℕ) (ne : id ≡ id' → ⊥) (w u : List ℕ
       let c = call s id w room n bs o.first in
       let out = filled c.fill.hit w c.rs in
       let a = accepted_after c.rs c.section id w room n bw c.fill in
-      let k : fill_answer id' u out room' ≡ A.Accepted n'
+      let k : fill_answer id' u out room' ≡ Ok n'
       = sym (call_is out a id' u room') ∙ ap (λ (t : List ℕ). fill_of t id' u room') (sym c.sheet) ∙ o.second in
       let f = was_made id' u out room' n' k in
       record {
@@ -187,7 +186,7 @@ module _ (s : List ℕ) (id id' : ℕ) (ne : id ≡ id' → ⊥) (w u : List ℕ
   -- the other order, over the records of an accepted section
   module _ (rs : List Rec) (a : Accepted rs) (h k : Hit) (t : Turned rs a id id' w u h k) (made : List ℕ) (n' : ℕ)
       (is : made ≡ encode (filled k u (filled h w rs))) (long : n' ≡ length (encode (filled k u (filled h w rs)))) (r r' : ℕ) where
-    second_turn : (m : ℕ) → m ≡ length (encode (filled t.first u rs)) → fill_of (encode rs) id' u r ≡ A.Accepted m
+    second_turn : (m : ℕ) → m ≡ length (encode (filled t.first u rs)) → fill_of (encode rs) id' u r ≡ Ok m
         → sheet_of (encode rs) id' u r ≡ encode (filled t.first u rs) → Accepted (filled t.first u rs) → OtherTurn (encode rs) id w id' u r r' n' made
     second_turn m e f g b =
         let out = filled t.first u rs in
@@ -196,7 +195,7 @@ module _ (s : List ℕ) (id id' : ℕ) (ne : id ≡ id' → ⊥) (w u : List ℕ
         elim (fits_or (length (encode (filled t.second w out))) r') [
           | inr l ↦ second_lacks m f (ap lacks_room q ∙ l)
           | inl l ↦ accepted m f
-              (q ∙ l.0 ∙ ap A.Accepted (sym (long ∙ ap (λ (x : List Rec). length (encode x)) t.same)))
+              (q ∙ l.0 ∙ ap Ok (sym (long ∙ ap (λ (x : List Rec). length (encode x)) t.same)))
               (ap (λ (x : List ℕ). sheet_of x id w r') g ∙ sheet-is out b id w r' ∙ bytes_one id w out r' t.second _ t.second_is l.0
               ∙ ap encode (sym t.same) ∙ sym is)
         ]

@@ -1,5 +1,6 @@
 -- The room that a sheet takes: a fill is accepted with at most the section's length, the value's and four bytes more, and 26 is given only
 -- where the buffer is shorter than that. Assumes nothing.
+use Rattle.std.specs.Prelude.{Err, Ok}
 use mathlib.Core.Path.{◌≡◌, refl, sym, ap, ◌∙◌}
 use mathlib.Core.Logic.{inl, inr}
 use Prim.Native.Nat.{ℕ, ◌+◌, ◌≤◌, ◌<◌}
@@ -11,11 +12,9 @@ use lib.ListN.{length}
 use Rattle.numbers.specs.Little.{Bytes}
 use Rattle.records.specs.Records.{Rec, limit, encode}
 use Rattle.records.specs.Reading.{read_all}
-use Rattle.records.specs.Answers.{number_of, number}
+use Rattle.records.specs.Answers.{number_of, number, Answer}
 use Rattle.records.specs.declared.fault.Fault.TheVariants as F
 use Rattle.records.specs.declared.fault.Refusal.{Refusal}
-use Rattle.records.specs.declared.fault.Answer.{Answer}
-use Rattle.records.specs.declared.fault.Answer.TheVariants as A
 use Rattle.text.proofs.Cases.{lt_or}
 use Rattle.section.specs.Section.{check_answer}
 use Rattle.acceptance.proofs.NeverSeven.{below_sixteen}
@@ -66,7 +65,7 @@ below-fillable id w rs = go (value_wrong w) refl
 
 -- a refusal before a sheet is made, or a sheet that is short enough, judged by its length
 data Comes (s : List ℕ) (id : ℕ) (w : List ℕ) (room : ℕ) : Type 0 where
-  before : (r : Refusal) → fill_of s id w room ≡ A.Refused r → number_of r.fault ≤ 24 → Comes s id w room
+  before : (r : Refusal) → fill_of s id w room ≡ Err r → number_of r.fault ≤ 24 → Comes s id w room
   made : (n : ℕ) → fill_of s id w room ≡ fits n room → n ≤ length s + length w + 4 → Comes s id w room
 
 comes : (s : List ℕ) (id : ℕ) (w : List ℕ) (room : ℕ) → Bytes s → Comes s id w room
@@ -76,7 +75,7 @@ comes s id w room bs = go (check_answer s) refl
     rs : List Rec
     rs = (read_all s).recs
 
-    by : (m : ℕ) → check_answer s ≡ A.Accepted m → (o : Outcome) → fillable id w rs ≡ o → Below o → Comes s id w room
+    by : (m : ℕ) → check_answer s ≡ Ok m → (o : Outcome) → fillable id w rs ≡ o → Below o → Comes s id w room
     by m q (refused f p) e b = before _ (ap (λ (c : Answer). after_section c (fill_answer id w rs room)) q ∙ answer_refused id w rs room f p e) b
     by m q (one h) e b =
         let c = checked s m bs q in
@@ -85,15 +84,15 @@ comes s id w room bs = go (check_answer s) refl
         (omega (arith, l, ap length c.stream))
 
     go : (c : Answer) → check_answer s ≡ c → Comes s id w room
-    go (A.Accepted m) q = by m q (fillable id w rs) refl (below-fillable id w rs)
-    go (A.Refused r) q =
+    go (Ok m) q = by m q (fillable id w rs) refl (below-fillable id w rs)
+    go (Err r) q =
         before r (ap (λ (c : Answer). after_section c (fill_answer id w rs room)) q) (let b = below_sixteen s in omega (arith, ap number q))
 
 -- ---- the theorems, over fill's promise
 
 module _ (s : List ℕ) (id : ℕ) (w out : List ℕ) (r : Answer) (out' : List ℕ) (bs : Bytes s) (k : Filled s id w out r out') where
   -- the length that an accepted fill tells
-  pub accepted_length : (n : ℕ) → r ≡ A.Accepted n → n ≤ length s + length w + 4
+  pub accepted_length : (n : ℕ) → r ≡ Ok n → n ≤ length s + length w + 4
   accepted_length n e = elim (comes s id w (length out) bs) [
     | before x q b ↦ absurd (let y = sym k.answer ∙ e in let z : ◌≡◌ {A = ℕ} 0 1 = cc in omega arith)
     | made m q l ↦ omega (arith, (fits_accepted m n (length out) (sym q ∙ sym k.answer ∙ e)).0, l)

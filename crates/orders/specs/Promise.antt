@@ -1,9 +1,9 @@
 -- What field text and fill promise, and that it leaves no choice: two outcomes that it allows are equal. Assumes nothing.
+use Rattle.filling.specs.Filling.{TextAnswer}
+use Rattle.records.specs.Answers.{Answer}
 use Rattle.std.specs.Prelude.{ℕ, ◌≡◌, List, length}
 use Rattle.std.proofs.Common.{sym, ◌∙◌}
 use Rattle.records.specs.Table.{written}
-use Rattle.records.specs.declared.fault.Answer.{Answer}
-use Rattle.filling.specs.declared.TextAnswer.{TextAnswer}
 use Rattle.orders.specs.Calls.{field_text_of, fill_of, sheet_of}
 
 -- the promise of field text is its answer

@@ -10,7 +10,8 @@ use Rattle.records.specs.Table.{tag_of, level_of, length_of, places_from, writte
 use Rattle.records.proofs.HeaderLaws.{length_part}
 use Rattle.records.proofs.ReadingLaws.{length-header_of, length-encode_one, size_least}
 use Rattle.records.proofs.ScanLaws.{length-encode}
-use Rattle.pack.specs.Rows.{record_of, Row, row_of, rows, rows_in, pointed, records, Inside}
+use Rattle.pack.specs.declared.table.Row.{Row}
+use Rattle.pack.specs.Rows.{record_of, row_of, rows, rows_in, pointed, records, Inside}
 use Rattle.pack.specs.Packing.{SoundRows}
 use Rattle.pack.proofs.RowLaws.{one_more}
 

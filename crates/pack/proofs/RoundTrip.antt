@@ -1,4 +1,6 @@
 -- Reading and packing undo each other, stated over the promises of the two calls. Assumes nothing.
+use Rattle.std.specs.Prelude.{Ok}
+use Rattle.records.specs.Answers.{Answer}
 use Prim.Native.Nat.{ℕ, ◌≤◌}
 use native.Mathlib.Omega.{arith}
 use mathlib.Core.Path.{◌≡◌, refl, sym, ap, ap₂, ◌∙◌}
@@ -6,8 +8,6 @@ use mathlib.Core.List.{List, [], map}
 use lib.ListN.{length, take, drop, length-map}
 use lib.Seq.{take_at}
 use Rattle.numbers.specs.Little.{Bytes}
-use Rattle.records.specs.declared.fault.Answer.{Answer}
-use Rattle.records.specs.declared.fault.Answer.TheVariants as A
 use Rattle.records.specs.Records.{Rec, encode}
 use Rattle.records.specs.Reading.{Read, read_all}
 use Rattle.records.specs.Table.{read_answer, entered, tag_of, level_of, length_of, places_from, parents_from, written, Lists, tabled, room_in}
@@ -16,17 +16,15 @@ use Rattle.records.proofs.TableLaws.{length-places_from}
 use Rattle.records.proofs.ClimbLaws.{length-parents_from}
 use Rattle.records.proofs.Reader.{IsStream, accepted_stream, stream_records, stream_accepted}
 use Rattle.pack.specs.Rows.{rows_in, pointed, records}
-use Rattle.pack.specs.Packing.{pack_answer, leaves, Accepts}
+use Rattle.pack.specs.Packing.{pack_answer, leaves, Accepts, Packed}
 use Rattle.pack.specs.Promise.{Packs}
-use Rattle.pack.specs.declared.judge.Packed.{Packed}
-use Rattle.pack.specs.declared.judge.Packed.TheVariants as P
 use Rattle.pack.proofs.Reader.{accepted, accepts, sound_inside}
 use Rattle.pack.proofs.RowLaws.{Listed, listed_in, length-rows, packed_levels}
 use Rattle.pack.proofs.RoundLaws.{rows_of, table_of, longer, point_back, sound_back, packed_columns, lawful_packed, column}
 
 -- ---- read, then pack
 
-module _ (s : List ℕ) (k₀ k : Lists) (out : List ℕ) (n : ℕ) (bytes : Bytes s) (read : Promised read_answer s k₀ (A.Accepted n) k) where
+module _ (s : List ℕ) (k₀ k : Lists) (out : List ℕ) (n : ℕ) (bytes : Bytes s) (read : Promised read_answer s k₀ (Ok n) k) where
   abbrev all : List Rec
   all = (read_all s).recs
 
@@ -63,10 +61,10 @@ module _ (s : List ℕ) (k₀ k : Lists) (out : List ℕ) (n : ℕ) (bytes : Byt
 
   -- the buffer has the stream, and what stood behind it
   pub read_then_pack : (a : Packed) (out' : List ℕ) → length s ≤ length out → Packs n k s out a out'
-      → (a ≡ P.Length (length s)) × (out' ≡ written s out)
+      → (a ≡ Ok (length s)) × (out' ≡ written s out)
   read_then_pack a out' room packs =
       let stream : encode (records s (rows_in n k)) ≡ s = ap encode records_are ∙ stream_is.encodes.stream in
-      let answer : pack_answer n k s (length out) ≡ P.Length (length s)
+      let answer : pack_answer n k s (length out) ≡ Ok (length s)
       = accepts n k s (length out) (length s)
       (record {
         listed = listed_back;
@@ -84,14 +82,14 @@ module _ (s : List ℕ) (k₀ k : Lists) (out : List ℕ) (n : ℕ) (bytes : Byt
 
 -- a stream s that is accepted, with a table of the tags, levels, lengths and parents that were packed, which points to the same records
 pub record ReadsBack (count : ℕ) (k : Lists) (bytes s : List ℕ) (r : Answer) (k' : Lists) : Type 0 where
-  pub accepted : r ≡ A.Accepted count
+  pub accepted : r ≡ Ok count
   pub tags : take count k'.tags ≡ take count k.tags
   pub levels : take count k'.levels ≡ take count k.levels
   pub lengths : take count k'.lengths ≡ take count k.lengths
   pub parents : take count k'.parents ≡ take count k.parents
   pub bodies : records s (rows_in count k') ≡ records bytes (rows_in count k)
 
-module _ (count : ℕ) (k : Lists) (bytes out : List ℕ) (n : ℕ) (out' : List ℕ) (pack : Packs count k bytes out (P.Length n) out')
+module _ (count : ℕ) (k : Lists) (bytes out : List ℕ) (n : ℕ) (out' : List ℕ) (pack : Packs count k bytes out (Ok n) out')
     (k₀ k' : Lists) (room : count ≤ room_in k₀) where
   abbrev recs : List Rec
   recs = records bytes (rows_in count k)
@@ -124,7 +122,7 @@ module _ (count : ℕ) (k : Lists) (bytes out : List ℕ) (n : ℕ) (out' : List
 
   pub pack_then_read : (r : Answer) → Promised read_answer (take n out') k₀ r k' → ReadsBack count k bytes (take n out') r k'
   pack_then_read r read =
-      let answer : r ≡ A.Accepted count
+      let answer : r ≡ Ok count
       = read.answer
       ∙ ap (λ (x : List ℕ). read_answer x (room_in k₀)) wrote
       ∙ stream_accepted (encode recs) (room_in k₀) count recs is_stream in

@@ -1,4 +1,5 @@
 -- The rows of a table: one after the other, and what an acceptance says of each. Assumes nothing.
+use Rattle.std.specs.Prelude.{Err, Ok}
 use Prim.Native.Nat.{ℕ, zero, suc, ◌+◌, ◌-◌, ◌≤◌, ◌<◌, min}
 use native.Mathlib.Omega.{arith}
 use native.Mathlib.Decide.{dec_le}
@@ -15,12 +16,9 @@ use Rattle.records.specs.declared.fault.Fault.TheVariants as F
 use Rattle.records.specs.Records.{limit, lead_of, size}
 use Rattle.records.specs.Table.{level_of, Lists, room_in}
 use Rattle.records.proofs.HeaderLaws.{length_part}
-use Rattle.pack.specs.Rows.{Row, row_of, rows, pointed, records}
-use Rattle.pack.specs.Packing.{refused_at, first_of, numbers_verdict, parent_verdict, body_verdict, verdict, row_by_row, closing, SoundRow}
-use Rattle.pack.specs.declared.judge.Verdict.{Verdict}
-use Rattle.pack.specs.declared.judge.Verdict.TheVariants as Ver
-use Rattle.pack.specs.declared.judge.Packed.{Packed}
-use Rattle.pack.specs.declared.judge.Packed.TheVariants as P
+use Rattle.pack.specs.declared.table.Row.{Row}
+use Rattle.pack.specs.Rows.{row_of, rows, pointed, records}
+use Rattle.pack.specs.Packing.{refused_at, first_of, numbers_verdict, parent_verdict, body_verdict, verdict, row_by_row, closing, SoundRow, Packed, Verdict}
 
 -- ---- as many rows as each list has entries
 
@@ -67,9 +65,9 @@ packed_levels bytes (suc n) t l p q h =
 
 -- ---- one row
 
-both_sound : (a b : Verdict) → first_of a b ≡ Ver.Sound → (a ≡ Ver.Sound) × (b ≡ Ver.Sound)
-both_sound Ver.Sound b e = (refl, e)
-both_sound (Ver.Faulty f) b e = absurd (let z : ◌≡◌ {A = ℕ} 0 1 = cc in omega arith)
+both_sound : (a b : Verdict) → first_of a b ≡ Ok tt → (a ≡ Ok tt) × (b ≡ Ok tt)
+both_sound (Ok tt) b e = (refl, e)
+both_sound (Err f) b e = absurd (let z : ◌≡◌ {A = ℕ} 0 1 = cc in omega arith)
 
 by_cond : (A : Verdict → Type 0) (b : Bool) (x y : Verdict) → (T b → A x) → (T (not b) → A y) → A (cond b x y)
 by_cond A true x y f g = f tt
@@ -77,8 +75,8 @@ by_cond A false x y f g = g tt
 
 -- what holds where a verdict is sound
 abbrev If : Type 0 → Verdict → Type 0
-If A Ver.Sound = A
-If A (Ver.Faulty f) = Unit {0}
+If A (Ok tt) = A
+If A (Err f) = Unit {0}
 
 numbers_if : (cap tag level : ℕ) → If ((16 ≤ tag) × (tag ≤ 1023) × (level ≤ cap) × (level ≤ 1023)) (numbers_verdict cap tag level)
 unfolding numbers_verdict
@@ -99,7 +97,7 @@ body_if : (lent end : ℕ) → If (end ≤ lent) (body_verdict lent end)
 unfolding body_verdict
 body_if lent end = by_cond (If (end ≤ lent)) (ltb lent end) _ _ (λ _. tt) (λ e. nltb→le _ _ e)
 
-pub sound : (cap : ℕ) (right : Bool) (lent : ℕ) (r : Row) → verdict cap right lent r ≡ Ver.Sound → SoundRow cap lent r × T right
+pub sound : (cap : ℕ) (right : Bool) (lent : ℕ) (r : Row) → verdict cap right lent r ≡ Ok tt → SoundRow cap lent r × T right
 unfolding verdict
 sound cap right lent r e =
     let below = first_of (parent_verdict right) (body_verdict lent (r.place + r.len)) in
@@ -110,7 +108,7 @@ sound cap right lent r e =
       subst (If _) y.0 (parent_if right),
     )
 
-pub sound_verdict : (cap : ℕ) (right : Bool) (lent : ℕ) (r : Row) → SoundRow cap lent r → right ≡ true → verdict cap right lent r ≡ Ver.Sound
+pub sound_verdict : (cap : ℕ) (right : Bool) (lent : ℕ) (r : Row) → SoundRow cap lent r → right ≡ true → verdict cap right lent r ≡ Ok tt
 unfolding verdict numbers_verdict parent_verdict body_verdict
 sound_verdict cap right lent r s g =
     simp (
@@ -126,12 +124,12 @@ sound_verdict cap right lent r s g =
 
 module _ (lent i cap : ℕ) where
   module _ (r : Row) (rs : List Row) (given has : List ℕ) (after : Packed) where
-    pub row_next : verdict cap (eqb (get_or given 0 0) (get_or has 0 0)) lent r ≡ Ver.Sound
+    pub row_next : verdict cap (eqb (get_or given 0 0) (get_or has 0 0)) lent r ≡ Ok tt
         → row_by_row lent i cap (r ∷ rs) given has after ≡ row_by_row lent (i + 1) (r.level + 1) rs (drop 1 given) (drop 1 has) after
     unfolding row_by_row
     row_next e = rw (e, row_by_row)
 
-    pub row_stop : (f : Fault) → verdict cap (eqb (get_or given 0 0) (get_or has 0 0)) lent r ≡ Ver.Faulty f
+    pub row_stop : (f : Fault) → verdict cap (eqb (get_or given 0 0) (get_or has 0 0)) lent r ≡ Err f
         → row_by_row lent i cap (r ∷ rs) given has after ≡ refused_at f i
     unfolding row_by_row
     row_stop f e = rw (e, row_by_row)
@@ -150,7 +148,7 @@ pub closing-short : (room n : ℕ) → n ≤ limit → room < n → closing room
 unfolding closing
 closing-short room n h g = simp (le-ltb limit n h, lt-ltb room n g)
 
-pub closing-fits : (room n : ℕ) → n ≤ limit → n ≤ room → closing room n ≡ P.Length n
+pub closing-fits : (room n : ℕ) → n ≤ limit → n ≤ room → closing room n ≡ Ok n
 unfolding closing
 closing-fits room n h g = simp (le-ltb limit n h, le-ltb room n g)
 

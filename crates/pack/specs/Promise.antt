@@ -3,8 +3,7 @@ use Rattle.std.specs.Prelude.{ℕ, ◌≡◌, List, length}
 use Rattle.std.proofs.Common.{sym, ◌∙◌}
 use Rattle.records.specs.Table.{Lists}
 use Rattle.pack.specs.Rows.{rows_in, records}
-use Rattle.pack.specs.Packing.{pack_answer, leaves}
-use Rattle.pack.specs.declared.judge.Packed.{Packed}
+use Rattle.pack.specs.Packing.{pack_answer, leaves, Packed}
 
 module _ (count : ℕ) (k : Lists) (bytes out : List ℕ) where
   -- the promise of pack, at an answer and the buffer afterwards

@@ -2,21 +2,24 @@
 -- 02, A6, adds the list of parents).
 use Rattle.std.specs.Prelude.{ℕ, zero, suc, ◌+◌, ◌≤◌, List, [], ◌∷◌, map, get_or, take, drop}
 use Rattle.records.specs.Records.{Rec}
-use Rattle.records.specs.Table.{Lists}
+use Rattle.records.specs.Table.{Lists, lists}
+use Rattle.pack.specs.declared.table.Row.{Row}
+use Rattle.pack.specs.declared.table.Table.{Table}
 
 -- a record by its parts
 abbrev pub record_of : ℕ → ℕ → List ℕ → Rec
 record_of tag level body = record { tag = tag; level = level; body = body }
 
--- an entry of each of four lists
-pub record Row : Type 0 where
-  pub tag : ℕ
-  pub level : ℕ
-  pub place : ℕ
-  pub len : ℕ
+-- the five lists of a table
+abbrev pub lists_of : Table → Lists
+lists_of t = lists t.tags.now t.levels.now t.places.now t.lengths.now t.parents.now
 
 abbrev pub row_of : ℕ → ℕ → ℕ → ℕ → Row
 row_of tag level place len = record { tag = tag; level = level; place = place; len = len }
+
+-- the row at an index
+abbrev pub row_at : Lists → ℕ → Row
+row_at k i = row_of (get_or k.tags i 0) (get_or k.levels i 0) (get_or k.places i 0) (get_or k.lengths i 0)
 
 -- the first n rows of four lists
 unfoldable pub rows : ℕ → List ℕ → List ℕ → List ℕ → List ℕ → List Row

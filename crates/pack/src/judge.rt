@@ -1,73 +1,68 @@
 // Judging a table before a byte of it is written.
 ghost use Rattle.std.specs.Prelude.{◌≡◌, ◌+◌, ◌≤◌, ◌<◌, min};
-ghost use Rattle.records.specs.Answers.{place_bits, host_form};
+ghost use Rattle.records.specs.Answers.{number_of};
 ghost use Rattle.records.specs.Records.{lead_of};
-ghost use Rattle.records.specs.Table.{lists, room_in};
-ghost use Rattle.pack.specs.Rows.{rows, row_of};
-ghost use Rattle.pack.specs.Packing.{number, place, first_of, numbers_verdict, parent_verdict, body_verdict, verdict, closing, rows_answer, pack_answer};
+ghost use Rattle.records.specs.Table.{room_in};
+ghost use Rattle.pack.specs.Rows.{lists_of, rows_in};
+ghost use Rattle.pack.specs.Packing.{refused_at, numbers_verdict, parent_verdict, body_verdict, verdict, closing, rows_answer, pack_answer};
 
 use crate::put::lead;
-use numbers::wide;
-use records::{Fault, Offset, bits, right_parents};
+use crate::table::{Row, Table};
+use records::{Fault, LIMIT, Reason, right_parents};
 
 // A record's index in the table.
 #[derive(Clone, Copy)]
 pub struct Index(pub usize);
 
-// What pack answers: the length written, or a fault with the index of its record.
+// Why pack refuses: a fault, and the index of its record.
 #[derive(Clone, Copy)]
-pub enum Packed {
-    Length(usize),
-    Refused { fault: Fault, index: Index },
+pub struct RowRefusal {
+    pub fault: Fault,
+    pub index: Index,
 }
 
-impl Packed {
-    // The host's form: the number, plus 256 times the index or the length that stands in its column for 0.
-    pub fn host(self) -> u64
-        ensures { result ≡ host_form (number self) (place_bits (place self)) 0 }
-    {
-        match self {
-            Packed::Length(n) => 256 * bits(n),
-            Packed::Refused { fault, index } => fault.number() + 256 * bits(index.0),
-        }
+impl Reason for RowRefusal {
+    ghost number_is = { λ r. number_of r.fault };
+
+    ghost place_is = { λ r. r.index.0 };
+
+    fn number(&self) -> u64 {
+        self.fault.number()
     }
+
+    fn place(&self) -> usize {
+        self.index.0
+    }
+}
+
+// What pack answers: the length written, or a refusal.
+pub type Packed = Result<usize, RowRefusal>;
+
+// The refusal of a fault at the record with an index.
+fn refused(fault: Fault, index: usize) -> Packed
+    ensures { result ≡ refused_at fault index }
+{
+    Err(RowRefusal {
+        fault,
+        index: Index(index),
+    })
 }
 
 // What one row's numbers say.
-#[derive(Clone, Copy)]
-pub enum Verdict {
-    Sound,
-    Faulty(Fault),
-}
-
-// The first of two faults.
-fn first_of(a: Verdict, b: Verdict) -> Verdict
-    ensures { result ≡ first_of a b }
-{
-    match a {
-        Verdict::Sound => b,
-        Verdict::Faulty(fault) => Verdict::Faulty(fault),
-    }
-}
+pub type Verdict = Result<(), Fault>;
 
 // A tag and a level, which may be at most cap: 5, 6.
 #[tactic(auto, unfolding(crate::specs::Packing::numbers_verdict))]
 fn numbers(tag: u32, level: u32, cap: u32) -> Verdict
     ensures { result ≡ numbers_verdict cap tag level }
 {
-    if tag < 16 {
-        return Verdict::Faulty(Fault::TagOutside);
+    if !(16..=1023).contains(&tag) {
+        return Err(Fault::TagOutside);
     }
-    if 1023 < tag {
-        return Verdict::Faulty(Fault::TagOutside);
+    if cap.min(1023) < level {
+        return Err(Fault::LevelRule);
     }
-    if cap < level {
-        return Verdict::Faulty(Fault::LevelRule);
-    }
-    if 1023 < level {
-        return Verdict::Faulty(Fault::LevelRule);
-    }
-    Verdict::Sound
+    Ok(())
 }
 
 // A parent that is the right one or not: 28.
@@ -76,9 +71,9 @@ fn parent(right: bool) -> Verdict
     ensures { result ≡ parent_verdict right }
 {
     if right {
-        Verdict::Sound
+        Ok(())
     } else {
-        Verdict::Faulty(Fault::ParentWrong)
+        Err(Fault::ParentWrong)
     }
 }
 
@@ -88,30 +83,21 @@ fn body(end: usize, lent: usize) -> Verdict
     ensures { result ≡ body_verdict lent end }
 {
     if lent < end {
-        Verdict::Faulty(Fault::BodyPastEnd)
+        Err(Fault::BodyPastEnd)
     } else {
-        Verdict::Sound
+        Ok(())
     }
 }
 
 // A row whose level may be at most cap, with the right parent or not, over `lent` bytes: 5, 6, 28, 4.
 #[tactic(auto, unfolding(crate::specs::Packing::verdict))]
-fn row(
-    tag: u32,
-    level: u32,
-    place: Offset,
-    len: usize,
-    cap: u32,
-    right: bool,
-    lent: usize,
-) -> Verdict
-    requires { (place.0 < 4294967296) × (len < 4294967296) }
-    ensures { result ≡ verdict cap right lent (row_of tag level place.0 len) }
+fn judge_row(row: Row, cap: u32, right: bool, lent: usize) -> Verdict
+    requires { (row.place < 4294967296) × (row.len < 4294967296) }
+    ensures { result ≡ verdict cap right lent row }
 {
-    let of_numbers = numbers(tag, level, cap);
-    let of_parent = parent(right);
-    let of_body = body(place.0 + len, lent);
-    first_of(of_numbers, first_of(of_parent, of_body))
+    numbers(row.tag, row.level, cap)?;
+    parent(right)?;
+    body(row.place + row.len, lent)
 }
 
 // A total with one more record; what is over the limit stays one over it, so that no sum of overlapping bodies wraps.
@@ -119,8 +105,7 @@ fn grown(total: usize, len: usize) -> usize
     requires { (total ≤ 16777217) × (len < 4294967296) }
     ensures { (result ≡ min 16777217 (total + (lead_of len + len))) × (result ≤ 16777217) }
 {
-    let more = total + lead(len) + len;
-    if 16777217 < more { 16777217 } else { more }
+    (total + lead(len) + len).min(16777217)
 }
 
 // A stream of `total` bytes into a buffer of `room`: 1, 26.
@@ -128,78 +113,40 @@ fn grown(total: usize, len: usize) -> usize
 fn close(total: usize, room: usize) -> Packed
     ensures { result ≡ closing room total }
 {
-    if 16777216 < total {
-        return Packed::Refused {
-            fault: Fault::StreamTooLong,
-            index: Index(0),
-        };
+    if LIMIT < total {
+        return refused(Fault::StreamTooLong, 0);
     }
     if room < total {
-        return Packed::Refused {
-            fault: Fault::BufferTooShort,
-            index: Index(0),
-        };
+        return refused(Fault::BufferTooShort, 0);
     }
-    Packed::Length(total)
+    Ok(total)
 }
 
 // The rows of lists that are long enough: 5, 6, 28, 4 of each, then 1 and 26.
-fn judge_rows(
-    count: usize,
-    tags: &[u32],
-    levels: &[u32],
-    places: &[u32],
-    lengths: &[u32],
-    parents: &[u32],
-    bytes: &[u8],
-    room: usize,
-) -> Packed
-    requires { count ≤ room_in (lists tags.now levels.now places.now lengths.now parents.now) }
-    ensures { result ≡ rows_answer bytes.now room (rows count tags.now levels.now places.now lengths.now) parents.now }
+fn judge_rows(table: Table, room: usize) -> Packed
+    requires { table.count ≤ room_in (lists_of table) }
+    ensures { result ≡ rows_answer table.entry.bytes.now room (rows_in table.entry.count (lists_of table.entry)) table.entry.parents.now }
 {
-    let right = right_parents(count, levels, parents);
-    let mut i: usize = 0;
+    let right = right_parents(table.count, table.levels, table.parents);
     let mut cap: u32 = 0;
     let mut total: usize = 0;
-    while i < count {
-        let level = levels[i];
-        let len = wide(lengths[i]);
-        let place = Offset(wide(places[i]));
-        match row(tags[i], level, place, len, cap, i < right, bytes.len()) {
-            Verdict::Sound => {
-                cap = level + 1;
-                total = grown(total, len);
-                i += 1;
-            }
-            Verdict::Faulty(fault) => {
-                return Packed::Refused {
-                    fault,
-                    index: Index(i),
-                };
-            }
+    for i in 0..table.count {
+        let row = table.row(i);
+        if let Err(fault) = judge_row(row, cap, i < right, table.bytes.len()) {
+            return refused(fault, i);
         }
+        cap = row.level + 1;
+        total = grown(total, row.len);
     }
     close(total, room)
 }
 
 // What pack answers, before a byte is written: 27, then the rows.
-pub fn judge(
-    count: usize,
-    tags: &[u32],
-    levels: &[u32],
-    places: &[u32],
-    lengths: &[u32],
-    parents: &[u32],
-    bytes: &[u8],
-    room: usize,
-) -> Packed
-    ensures { result ≡ pack_answer count (lists tags.now levels.now places.now lengths.now parents.now) bytes.now room }
+pub fn judge(table: Table, room: usize) -> Packed
+    ensures { result ≡ pack_answer table.entry.count (lists_of table.entry) table.entry.bytes.now room }
 {
-    if records::room(tags, levels, places, lengths, parents) < count {
-        return Packed::Refused {
-            fault: Fault::ListTooShort,
-            index: Index(0),
-        };
+    if table.room() < table.count {
+        return refused(Fault::ListTooShort, 0);
     }
-    judge_rows(count, tags, levels, places, lengths, parents, bytes, room)
+    judge_rows(table, room)
 }

@@ -2,9 +2,11 @@
 #![tactic(auto)]
 
 mod judge;
+mod lay;
 mod put;
 mod table;
 
-pub use judge::{Index, Packed};
+pub use judge::{Index, Packed, RowRefusal};
+pub use lay::pack;
 pub use put::{lead, put_header, put_record};
-pub use table::pack;
+pub use table::Table;

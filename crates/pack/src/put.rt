@@ -4,7 +4,7 @@ ghost use Rattle.numbers.specs.Little.{laid};
 ghost use Rattle.records.specs.Records.{lead_of, header_word, header_of, encode_one, size};
 ghost use Rattle.pack.specs.Rows.{record_of};
 
-use numbers::{put_all, put32};
+use numbers::{put_all, put_little};
 
 // How many bytes a header takes before a body of this length.
 #[tactic(auto, unfolding(records::specs::Records::lead_of))]
@@ -29,12 +29,12 @@ pub fn put_header(out: &mut [u8], tag: u32, level: u32, len: usize)
     ensures { out.new ≡ laid (header_of tag level len) out.old }
 {
     if len < 4095 {
-        put32(out, word(tag, level, len as u32));
+        put_little::<4>(out, word(tag, level, len as u32));
         return;
     }
     if 8 <= out.len() {
-        put32(out, word(tag, level, 4095));
-        put32(&mut out[4..], (len % 4294967296) as u32);
+        put_little::<4>(out, word(tag, level, 4095));
+        put_little::<4>(&mut out[4..], (len % 4294967296) as u32);
     }
 }
 

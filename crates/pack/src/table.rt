@@ -1,65 +1,64 @@
-// Packing: judge the whole table first, then lay its records one behind the other.
-ghost use Rattle.std.specs.Prelude.{◌≡◌, ◌≤◌, length};
-ghost use Rattle.records.specs.Records.{encode};
-ghost use Rattle.records.specs.Table.{lists, shortest, written};
-ghost use Rattle.pack.specs.Rows.{rows, records, Inside};
-ghost use Rattle.pack.specs.Promise.{Packs};
+// A table of records over lent bytes, and its rows.
+ghost use Rattle.std.specs.Prelude.{◌≡◌, ◌+◌, ◌≤◌, ◌<◌, length, take, drop};
+ghost use Rattle.records.specs.Table.{room_in, shortest};
+ghost use Rattle.pack.specs.Rows.{lists_of, row_at};
 
-use crate::judge::{Packed, judge};
-use crate::put::put_record;
 use numbers::wide;
 
-// The second pass: the records of a table that was judged sound.
-fn lay(
-    count: usize,
-    tags: &[u32],
-    levels: &[u32],
-    places: &[u32],
-    lengths: &[u32],
-    bytes: &[u8],
-    out: &mut [u8],
-)
-    requires count_bound { count ≤ shortest tags.now levels.now places.now lengths.now }
-    requires inside { Inside (length bytes.now) (rows count tags.now levels.now places.now lengths.now) }
-    requires lengths_in_bounds { length (encode (records bytes.now (rows count tags.now levels.now places.now lengths.now))) ≤ length out.old }
-    ensures { out.new ≡ written (encode (records bytes.now (rows count tags.now levels.now places.now lengths.now))) out.old }
-{
-    let mut i: usize = 0;
-    let mut at: usize = 0;
-    while i < count {
-        let from = wide(places[i]);
-        let end = from + wide(lengths[i]);
-        let body = &bytes[from..end];
-        at += put_record(&mut out[at..], tags[i], levels[i], body);
-        i += 1;
-    }
+// The first `count` entries of five lists, and the bytes that they point into. C lends each list by itself, so they are no list of rows.
+#[derive(Clone, Copy)]
+pub struct Table<'a> {
+    pub count: usize,
+    pub tags: &'a [u32],
+    pub levels: &'a [u32],
+    pub places: &'a [u32],
+    pub lengths: &'a [u32],
+    pub parents: &'a [u32],
+    pub bytes: &'a [u8],
 }
 
-// Packs the first `count` rows of a table over `bytes` into `out`. A refusal changes nothing; what stands behind the stream stays.
-pub fn pack(
-    count: usize,
-    tags: &[u32],
-    levels: &[u32],
-    places: &[u32],
-    lengths: &[u32],
-    parents: &[u32],
-    bytes: &[u8],
-    out: &mut [u8],
-) -> Packed
-    ensures { Packs count (lists tags.now levels.now places.now lengths.now parents.now) bytes.now out.old result out.new }
-{
-    let answer = judge(
-        count,
-        tags,
-        levels,
-        places,
-        lengths,
-        parents,
-        bytes,
-        out.len(),
-    );
-    if let Packed::Length(_) = answer {
-        lay(count, tags, levels, places, lengths, bytes, out);
+// An entry of each of the first four lists.
+#[derive(Clone, Copy)]
+pub struct Row {
+    pub tag: u32,
+    pub level: u32,
+    pub place: usize,
+    pub len: usize,
+}
+
+impl<'a> Table<'a> {
+    // How many records the shortest list has room for.
+    pub(crate) fn room(self) -> usize
+        ensures { result ≡ room_in (lists_of self.entry) }
+    {
+        records::room(
+            self.tags,
+            self.levels,
+            self.places,
+            self.lengths,
+            self.parents,
+        )
     }
-    answer
+
+    // A row of the table.
+    pub(crate) fn row(self, i: usize) -> Row
+        requires { i < shortest self.tags.now self.levels.now self.places.now self.lengths.now }
+        ensures is { result ≡ row_at (lists_of self.entry) i }
+        ensures small { (result.place < 4294967296) × (result.len < 4294967296) }
+    {
+        Row {
+            tag: self.tags[i],
+            level: self.levels[i],
+            place: wide(self.places[i]),
+            len: wide(self.lengths[i]),
+        }
+    }
+
+    // The bytes that a row points to.
+    pub(crate) fn body(self, row: Row) -> &'a [u8]
+        requires { row.place + row.len ≤ length self.bytes.now }
+        ensures { result.now ≡ take row.len (drop row.place self.entry.bytes.now) }
+    {
+        &self.bytes[row.place..row.place + row.len]
+    }
 }

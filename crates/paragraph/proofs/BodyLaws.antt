@@ -1,9 +1,9 @@
 -- The children that a search finds are those of the view, and their bytes are the bodies. Assumes nothing.
+use Rattle.std.specs.Prelude.{None, Some}
 use Prim.Native.Nat.{ℕ, ◌+◌, ◌≤◌}
 use native.Mathlib.Omega.{arith}
 use mathlib.Core.Path.{◌≡◌, refl, sym, ap, ◌∙◌}
 use mathlib.Core.Bool.{Bool, true, false}
-use mathlib.Core.Option.{none, some}
 use mathlib.Core.List.{List, [], ◌∷◌}
 use lib.Dec.{eqb}
 use lib.ListN.{length, drop, length-drop}
@@ -16,11 +16,9 @@ use Rattle.records.specs.declared.header.Record.{Record}
 use Rattle.paragraph.specs.View.{side, keep, kids, child, controls}
 use Rattle.paragraph.specs.Stream.{records_in}
 use Rattle.paragraph.specs.Rules.{length_of}
-use Rattle.paragraph.specs.Places.{sought, found_in, length_found, body_of, body_found, Inside}
+use Rattle.paragraph.specs.Places.{sought, found_in, length_found, body_of, body_found, Inside, Found}
 use Rattle.paragraph.specs.declared.view.Side.{Side}
 use Rattle.paragraph.specs.declared.view.Side.TheVariants as S
-use Rattle.paragraph.specs.declared.children.Found.{Found}
-use Rattle.paragraph.specs.declared.children.Found.TheVariants as P
 use Rattle.paragraph.proofs.StreamLaws.{Stood, stood_of}
 use Rattle.paragraph.proofs.FindLaws.{sought_beyond, sought_passed, sought_owned, sought_other, found_beyond, found_passed, found_here}
 
@@ -60,7 +58,7 @@ module _ (n : ℕ) (r : Rec) (rs : List Rec) where
   kids_passed e = rw (e, keep)
 
 module _ (tag : ℕ) (r : Rec) (k : List Rec) where
-  pub child_here : r.tag ≡ tag → child tag (r ∷ k) ≡ some r.body
+  pub child_here : r.tag ≡ tag → child tag (r ∷ k) ≡ Some r.body
   unfolding child
   child_here e = rw (eq-eqb r.tag tag e)
 
@@ -83,18 +81,18 @@ module _ (r : Rec) (k : List Rec) where
 record Met (s : List ℕ) (n tag at : ℕ) (p : Record) : Type 0 where
   body_end : p.body.0 + p.len ≡ p.next.0
   inside : p.next.0 ≤ length s
-  child-is : child tag (kids n (records_in (drop at s))) ≡ some (body_of s p)
+  child-is : child tag (kids n (records_in (drop at s))) ≡ Some (body_of s p)
 
 abbrev MetIf : List ℕ → ℕ → ℕ → ℕ → Found → Type 0
-MetIf s n tag at (P.At p) = Met s n tag at p
-MetIf s n tag at P.Nothing = child tag (kids n (records_in (drop at s))) ≡ none
+MetIf s n tag at (Some p) = Met s n tag at p
+MetIf s n tag at None = child tag (kids n (records_in (drop at s))) ≡ None
 
 module _ (s : List ℕ) (bs : Bytes s) (n tag : ℕ) where
   -- where the child from `at` on is that from `to` on
   same_if : (at to : ℕ) → child tag (kids n (records_in (drop at s))) ≡ child tag (kids n (records_in (drop to s)))
       → (f : Found) → MetIf s n tag to f → MetIf s n tag at f
-  same_if at to e (P.At p) k = record { body_end = k.body_end; inside = k.inside; child-is = e ∙ k.child-is }
-  same_if at to e P.Nothing k = e ∙ k
+  same_if at to e (Some p) k = record { body_end = k.body_end; inside = k.inside; child-is = e ∙ k.child-is }
+  same_if at to e None k = e ∙ k
 
   met_here : (at : ℕ) (r : Rec) → Stood s at r → side n r.tag r.level ≡ S.Owned → r.tag ≡ tag → Met s n tag at (record_at at r)
   unfolding size
@@ -104,7 +102,7 @@ module _ (s : List ℕ) (bs : Bytes s) (n tag : ℕ) where
         inside = d.inside;
         child-is =
             ap (child tag) (ap (kids n) d.records ∙ kids_owned n r (records_in (drop (at + size r) s)) o)
-            ∙ child_here tag r (kids n (records_in (drop (at + size r) s))) t ∙ ap some (sym d.body_is);
+            ∙ child_here tag r (kids n (records_in (drop (at + size r) s))) t ∙ ap Some (sym d.body_is);
       }
 
   met_by_lem : (rs : List Rec) (at : ℕ) → records_in (drop at s) ≡ rs → MetIf s n tag at (found_in n tag 0 at rs)
@@ -127,24 +125,24 @@ module _ (s : List ℕ) (bs : Bytes s) (n tag : ℕ) where
 
   -- the child of the view is the body that was found
   child_if : (at : ℕ) (f : Found) → MetIf s n tag at f → body_found s f ≡ child tag (kids n (records_in (drop at s)))
-  child_if at (P.At p) k = sym k.child-is
-  child_if at P.Nothing k = sym k
+  child_if at (Some p) k = sym k.child-is
+  child_if at None k = sym k
 
   pub child_found : (at : ℕ) → body_found s (found_in n tag 0 at (records_in (drop at s))) ≡ child tag (kids n (records_in (drop at s)))
   child_found at = child_if at (found_in n tag 0 at (records_in (drop at s))) (met_by_lem (records_in (drop at s)) at refl)
 
   inside_if : (at : ℕ) (f : Found) → MetIf s n tag at f → Inside s f
-  inside_if at (P.At p) k = omega (arith, k.body_end, k.inside)
-  inside_if at P.Nothing k = tt
+  inside_if at (Some p) k = omega (arith, k.body_end, k.inside)
+  inside_if at None k = tt
 
   pub found_inside : (at : ℕ) → Inside s (found_in n tag 0 at (records_in (drop at s)))
   found_inside at = inside_if at (found_in n tag 0 at (records_in (drop at s))) (met_by_lem (records_in (drop at s)) at refl)
 
   length_if : (at : ℕ) (f : Found) → MetIf s n tag at f → length_found f ≡ length_of (child tag (kids n (records_in (drop at s))))
-  length_if at (P.At p) k =
-      ap some (sym (length-take-le p.len (drop p.body.0 s) (omega (arith, length-drop p.body.0 s, k.body_end, k.inside))))
+  length_if at (Some p) k =
+      ap Some (sym (length-take-le p.len (drop p.body.0 s) (omega (arith, length-drop p.body.0 s, k.body_end, k.inside))))
       ∙ ap length_of (sym k.child-is)
-  length_if at P.Nothing k = ap length_of (sym k)
+  length_if at None k = ap length_of (sym k)
 
   pub length_found_lem : (at : ℕ) → length_found (found_in n tag 0 at (records_in (drop at s))) ≡ length_of (child tag (kids n (records_in (drop at s))))
   length_found_lem at = length_if at (found_in n tag 0 at (records_in (drop at s))) (met_by_lem (records_in (drop at s)) at refl)

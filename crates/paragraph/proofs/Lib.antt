@@ -1,6 +1,7 @@
 pub mod ViewLaws
 pub mod ChildLaws
 pub mod StreamLaws
+pub mod StepLaws
 pub mod FindLaws
 pub mod BodyLaws
 pub mod OwningLaws

@@ -1,9 +1,9 @@
 -- What a fault can name of a paragraph, and that it stands among the paragraph's records. Assumes nothing.
+use Rattle.std.specs.Prelude.{Err, None, Ok, Option, Some}
 use Prim.Native.Nat.{ℕ, zero, suc, ◌+◌, ◌*◌, ◌≤◌, ◌<◌}
 use native.Mathlib.Omega.{arith}
 use mathlib.Core.Path.{◌≡◌, refl}
 use mathlib.Core.Bool.{Bool, true, false}
-use mathlib.Core.Option.{Option, none, some}
 use mathlib.Core.List.{List, [], ◌∷◌}
 use lib.ListN.{length}
 use Rattle.records.specs.Kinds as kind
@@ -17,14 +17,12 @@ use Rattle.text.proofs.UnitLaws.{length-units}
 use Rattle.text.proofs.WalkLaws.{Upto, text-within}
 use Rattle.entries.proofs.EntryLaws.{Under, shapes_under, marks_under}
 use Rattle.paragraph.specs.View.{View, view, kids, child}
-use Rattle.paragraph.specs.Rules.{guard, guard_at, or_else, unit_of, entry_of, bytes_in, unit_broken, length_fault, entry_fault, field_fault, control_fault, body_fault, parts_fault, head_fault, paragraph_fault}
+use Rattle.paragraph.specs.Rules.{guard, guard_at, or_else, unit_of, entry_of, bytes_in, unit_broken, length_fault, entry_fault, field_fault, control_fault, body_fault, parts_fault, head_fault, paragraph_fault, Finding}
 use Rattle.paragraph.specs.Places.{sought, found_in, place_found, body_place, child_in, place_of}
 use Rattle.paragraph.specs.declared.view.Side.{Side}
 use Rattle.paragraph.specs.declared.view.Side.TheVariants as S
 use Rattle.paragraph.specs.declared.finding.Which.{Which}
 use Rattle.paragraph.specs.declared.finding.Which.TheVariants as W
-use Rattle.paragraph.specs.declared.finding.Finding.{Finding}
-use Rattle.paragraph.specs.declared.finding.Finding.TheVariants as G
 use Rattle.paragraph.proofs.FindLaws.{found_beyond, found_passed, found_here, found_later}
 use Rattle.paragraph.proofs.BodyLaws.{Ways, beyond, owned, other, passed, ways, kids_beyond, kids_owned, kids_passed, child_here, child_other}
 
@@ -41,8 +39,8 @@ pub data Names (own : List Rec) : Fault → Which → Type 0 where
 
 -- where there is a breach, it is one of these
 abbrev pub NamesIf : List Rec → Finding → Type 0
-NamesIf own G.Lawful = Unit {0}
-NamesIf own (G.Breach f w) = Names own f w
+NamesIf own (Ok tt) = Unit {0}
+NamesIf own (Err b) = Names own b.fault b.which
 
 module _ (own : List Rec) where
   by_guard : (b : Bool) (x rest : Finding) → NamesIf own x → NamesIf own rest → NamesIf own (guard b x rest)
@@ -52,23 +50,23 @@ module _ (own : List Rec) where
 
   by_else : (x rest : Finding) → NamesIf own x → NamesIf own rest → NamesIf own (or_else x rest)
   unfolding or_else
-  by_else G.Lawful rest h k = k
-  by_else (G.Breach f w) rest h k = h
+  by_else (Ok tt) rest h k = k
+  by_else (Err b) rest h k = h
 
   by_unit : (t : Option (List ℕ)) (rest : Finding) → child kind.text own ≡ t → NamesIf own rest → NamesIf own (guard_at (unit_broken t) F.TextRule unit_of rest)
   unfolding guard_at
-  by_unit none rest e k = k
-  by_unit (some b) rest e k = on (text_fault (units b)) (text-within (units b))
+  by_unit None rest e k = k
+  by_unit (Some b) rest e k = on (text_fault (units b)) (text-within (units b))
     where
       on : (o : Option ℕ) → Upto (length (units b)) o → NamesIf own (guard_at o F.TextRule unit_of rest)
-      on none h = k
-      on (some p) h = unit p (rw e (omega (arith, length-units b)))
+      on None h = k
+      on (Some p) h = unit p (rw e (omega (arith, length-units b)))
 
   by_entry : (tag w n : ℕ) (o : Option ℕ) (rest : Finding) → Under n o → ((i : ℕ) → i < n → w * i ≤ length (bytes_in (child tag own)))
       → NamesIf own rest → NamesIf own (guard_at o F.EntriesWrong (entry_of tag w) rest)
   unfolding guard_at
-  by_entry tag w n none rest u h k = k
-  by_entry tag w n (some i) rest u h k = entry tag w i (h i u)
+  by_entry tag w n None rest u h k = k
+  by_entry tag w n (Some i) rest u h k = entry tag w i (h i u)
 
   by_field : (nth : ℕ) (cs : List ℕ) (bs : List (List ℕ)) → NamesIf own (field_fault nth cs bs)
   unfolding field_fault

@@ -1,4 +1,5 @@
 -- The control header behind some others: where it stands, its bytes, and the control headers behind it. Assumes nothing.
+use Rattle.std.specs.Prelude.{None, Some}
 use Prim.Native.Nat.{ℕ, zero, suc, ◌+◌, ◌≤◌}
 use native.Mathlib.Omega.{arith}
 use native.Mathlib.Nat.{add_assoc}
@@ -13,10 +14,8 @@ use Rattle.records.specs.declared.header.Record.{Record}
 use Rattle.records.proofs.ReadingLaws.{size_least}
 use Rattle.paragraph.specs.View.{side, kids, controls}
 use Rattle.paragraph.specs.Stream.{records_in}
-use Rattle.paragraph.specs.Places.{found_in, body_of}
+use Rattle.paragraph.specs.Places.{found_in, body_of, Found}
 use Rattle.paragraph.specs.declared.view.Side.TheVariants as S
-use Rattle.paragraph.specs.declared.children.Found.{Found}
-use Rattle.paragraph.specs.declared.children.Found.TheVariants as P
 use Rattle.paragraph.proofs.StreamLaws.{Stood, stood_of}
 use Rattle.paragraph.proofs.FindLaws.{sought_owned, found_beyond, found_passed, found_here, found_later}
 use Rattle.paragraph.proofs.BodyLaws.{Ways, ways, beyond, owned, other, passed, kids_beyond, kids_owned, kids_passed, controls_here, controls_other}
@@ -33,12 +32,12 @@ pub record Owning (s : List ℕ) (n k at : ℕ) (p : Record) : Type 0 where
   pub body_is : p.body.0 ≡ p.at.0 + lead_of p.len
   pub body_end : p.body.0 + p.len ≡ p.next.0
   pub headers_are : drop k (headers s n at) ≡ body_of s p ∷ headers s n p.next.0
-  pub found : found_in n 71 k at (records_in (drop at s)) ≡ P.At p
+  pub found : found_in n 71 k at (records_in (drop at s)) ≡ Some p
   pub later : (i j : ℕ) → i ≡ suc (k + j) → found_in n 71 i at (records_in (drop at s)) ≡ found_in n 71 j p.next.0 (records_in (drop p.next.0 s))
 
 abbrev pub OwningIf : List ℕ → ℕ → ℕ → ℕ → Found → Type 0
-OwningIf s n k at (P.At p) = Owning s n k at p
-OwningIf s n k at P.Nothing = drop k (headers s n at) ≡ []
+OwningIf s n k at (Some p) = Owning s n k at p
+OwningIf s n k at None = drop k (headers s n at) ≡ []
 
 one : (j : ℕ) → suc (0 + j) ≡ suc j
 one j = omega arith
@@ -76,7 +75,7 @@ module _ (s : List ℕ) (bs : Bytes s) (n : ℕ) where
     -- r is no control header of this paragraph
     passing : (k : ℕ) → headers s n at ≡ headers s n (at + size r) → ((j : ℕ) → found_in n 71 j at (records_in (drop at s)) ≡ found_in n 71 j (at + size r) (records_in (drop (at + size r) s)))
         → (f : Found) → OwningIf s n k (at + size r) f → OwningIf s n k at f
-    passing k e g (P.At p) o =
+    passing k e g (Some p) o =
         record {
           from = omega (arith, o.from);
           least = o.least;
@@ -87,12 +86,12 @@ module _ (s : List ℕ) (bs : Bytes s) (n : ℕ) where
           found = g k ∙ o.found;
           later = λ i j q. g i ∙ o.later i j q;
         }
-    passing k e g P.Nothing o = ap (drop k) e ∙ o
+    passing k e g None o = ap (drop k) e ∙ o
 
     -- r is one of them
     counting : (k : ℕ) (b : List ℕ) → headers s n at ≡ b ∷ headers s n (at + size r) → ((j : ℕ) → found_in n 71 (suc j) at (records_in (drop at s)) ≡ found_in n 71 j (at + size r) (records_in (drop (at + size r) s)))
         → (f : Found) → OwningIf s n k (at + size r) f → OwningIf s n (suc k) at f
-    counting k b e g (P.At p) o =
+    counting k b e g (Some p) o =
         record {
           from = omega (arith, o.from);
           least = o.least;
@@ -103,7 +102,7 @@ module _ (s : List ℕ) (bs : Bytes s) (n : ℕ) where
           found = g k ∙ o.found;
           later = λ i j q. ap (λ (i : ℕ). found_in n 71 i at (records_in (drop at s))) (q ∙ two k j) ∙ g (suc (k + j)) ∙ o.later (suc (k + j)) j refl;
         }
-    counting k b e g P.Nothing o = ap (drop (suc k)) e ∙ o
+    counting k b e g None o = ap (drop (suc k)) e ∙ o
 
   owning_by : (rs : List Rec) (k at : ℕ) → records_in (drop at s) ≡ rs → OwningIf s n k at (found_in n 71 k at rs)
   unfolding found_in kids controls

@@ -1,4 +1,5 @@
 -- One pass over a paragraph's children: what was found so far, and what the rest adds. Assumes nothing.
+use Rattle.std.specs.Prelude.{None, Some}
 use Prim.Native.Nat.{ℕ, ◌+◌, ◌≤◌}
 use native.Mathlib.Omega.{arith}
 use mathlib.Core.Path.{◌≡◌, refl, sym, ap, ◌∙◌}
@@ -12,20 +13,18 @@ use Rattle.records.specs.Reading.{record_at}
 use Rattle.records.specs.declared.header.Record.{Record}
 use Rattle.paragraph.specs.View.{side, kids, controls}
 use Rattle.paragraph.specs.Stream.{records_in}
-use Rattle.paragraph.specs.Places.{found_in, taken_as, parts_in}
+use Rattle.paragraph.specs.Places.{found_in, taken_as, parts_in, Found}
 use Rattle.paragraph.specs.declared.view.Side.{Side}
 use Rattle.paragraph.specs.declared.view.Side.TheVariants as S
 use Rattle.paragraph.specs.declared.children.Parts.{Parts}
-use Rattle.paragraph.specs.declared.children.Found.{Found}
-use Rattle.paragraph.specs.declared.children.Found.TheVariants as P
 use Rattle.paragraph.proofs.StreamLaws.{Read}
 use Rattle.paragraph.proofs.FindLaws.{sought_beyond, sought_passed, sought_owned, sought_other, found_beyond, found_passed, found_here}
 use Rattle.paragraph.proofs.BodyLaws.{kids_beyond, kids_owned, kids_passed, controls_here, controls_other}
 
 -- what was found before, else what the rest has
 abbrev pub earlier : Found → Found → Found
-earlier (P.At p) g = P.At p
-earlier P.Nothing g = g
+earlier (Some p) g = Some p
+earlier None g = g
 
 unfoldable pub joined : Parts → Parts → Parts
 joined a b =
@@ -49,11 +48,11 @@ taken a p =
     }
 
 abbrev pub nothing : Parts
-nothing = record { text = P.Nothing; shapes = P.Nothing; layout = P.Nothing; marks = P.Nothing; controls = 0 }
+nothing = record { text = None; shapes = None; layout = None; marks = None; controls = 0 }
 
-earlier_none : (f : Found) → earlier f P.Nothing ≡ f
-earlier_none (P.At p) = refl
-earlier_none P.Nothing = refl
+earlier_none : (f : Found) → earlier f None ≡ f
+earlier_none (Some p) = refl
+earlier_none None = refl
 
 joined_nothing : (a : Parts) → joined a nothing ≡ a
 unfolding joined
@@ -75,7 +74,7 @@ at_most a p = go (eqb p.tag 71)
     go true = omega arith
     go false = omega arith
 
-parts_none : (n at : ℕ) (rs : List Rec) → kids n rs ≡ [] → ((t : ℕ) → found_in n t 0 at rs ≡ P.Nothing) → parts_in n at rs ≡ nothing
+parts_none : (n at : ℕ) (rs : List Rec) → kids n rs ≡ [] → ((t : ℕ) → found_in n t 0 at rs ≡ None) → parts_in n at rs ≡ nothing
 unfolding parts_in controls
 parts_none n at rs e f = rw (e, f 67, f 68, f 69, f 70)
 
@@ -92,10 +91,10 @@ module _ (n at : ℕ) (r : Rec) (rs : List Rec) where
   -- one of the four: what was found before, this record, or what the rest has
   found_taken : side n r.tag r.level ≡ S.Owned → (t : ℕ) (f : Found)
       → earlier f (found_in n t 0 at (r ∷ rs)) ≡ earlier (taken_as f (eqb r.tag t) (record_at at r)) (found_in n t 0 (at + size r) rs)
-  found_taken e t (P.At p) = refl
-  found_taken e t P.Nothing = go (eqb r.tag t) refl
+  found_taken e t (Some p) = refl
+  found_taken e t None = go (eqb r.tag t) refl
     where
-      go : (b : Bool) → eqb r.tag t ≡ b → found_in n t 0 at (r ∷ rs) ≡ earlier (cond b (P.At (record_at at r)) P.Nothing) (found_in n t 0 (at + size r) rs)
+      go : (b : Bool) → eqb r.tag t ≡ b → found_in n t 0 at (r ∷ rs) ≡ earlier (cond b (Some (record_at at r)) None) (found_in n t 0 (at + size r) rs)
       go true q = found_here n t at r rs (sought_owned n t r.tag r.level e (eqb-true r.tag t q))
       go false q = found_passed n t at r rs 0 (sought_other n t r.tag r.level e (eqb-false r.tag t q))
 

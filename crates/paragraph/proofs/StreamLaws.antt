@@ -1,9 +1,9 @@
 -- The records of a part of a stream, by the header at a place. Assumes nothing.
+use Rattle.std.specs.Prelude.{None, Ok, Some}
 use Prim.Native.Nat.{ℕ, zero, suc, ◌+◌, ◌-◌, ◌≤◌, ◌<◌}
 use native.Mathlib.Omega.{arith}
 use mathlib.Core.Path.{◌≡◌, refl, sym, ap, ◌∙◌}
 use mathlib.Core.Bool.{Bool, true, false, cond}
-use mathlib.Core.Option.{none}
 use mathlib.Core.List.{List, [], ◌∷◌, ◌++◌}
 use lib.Dec.{ltb}
 use borrow.Author.Tests.{ltb-true, ltb-false}
@@ -11,12 +11,10 @@ use lib.ListN.{length, take, drop, length-drop, length-append}
 use lib.Seq.{drop-drop, drop_at}
 use Rattle.numbers.specs.Little.{Bytes}
 use Rattle.records.specs.Records.{Rec, lead_of, encode_one, encode, size, RecordObeys, Lawful}
-use Rattle.records.specs.Reading.{Stands, whole, fault, stands_at, record_at, ahead_by, ahead_of, read_from, read_all}
+use Rattle.records.specs.Reading.{Stands, whole, fault, stands_at, record_at, ahead_by, ahead_of, read_from, read_all, Ahead}
 use Rattle.records.specs.declared.fault.Refusal.{Refusal}
 use Rattle.records.specs.declared.header.Record.{Record}
-use Rattle.records.specs.declared.header.Ahead.{Ahead}
-use Rattle.records.specs.declared.header.Ahead.TheVariants as N
-use Rattle.records.proofs.ReadingLaws.{here, NoRecord, no_record, found, size_least, length-encode_one, stands_encode, encode_read, body_behind}
+use Rattle.records.proofs.ReadingLaws.{here, NoRecord, found, size_least, length-encode_one, stands_encode, encode_read, body_behind}
 use Rattle.numbers.proofs.LittleLaws.{bytes_drop}
 use Rattle.paragraph.specs.Stream.{within, records_in}
 
@@ -106,7 +104,7 @@ pub record Read (s : List ℕ) (at : ℕ) (r : Record) : Type 0 where
   pub records : records_in (drop at s) ≡ rec ∷ records_in (drop r.next.0 s)
   pub stands : Stood s at rec
 
-pub read_at : (s : List ℕ) (at : ℕ) → Bytes s → (r : Record) → ahead_of 1023 s at ≡ N.Record r → Read s at r
+pub read_at : (s : List ℕ) (at : ℕ) → Bytes s → (r : Record) → ahead_of 1023 s at ≡ Some (Ok r) → Read s at r
 read_at s at bs r e =
     let d = here s at 1023 bs r e in
     let k = stood s at bs d.rec d.left d.stands in
@@ -125,11 +123,11 @@ read_at s at bs r e =
     }
 
 -- and where it found none
-none_by : (s : List ℕ) (at : ℕ) (b : Bool) (a : Stands) (x : Ahead) → ltb at (length s) ≡ b → stands_at 1023 (drop at s) ≡ a → x ≡ cond b (ahead_by at a) N.End → NoRecord x
+none_by : (s : List ℕ) (at : ℕ) (b : Bool) (a : Stands) (x : Ahead) → ltb at (length s) ≡ b → stands_at 1023 (drop at s) ≡ a → x ≡ cond b (ahead_by at a) None → NoRecord x
     → records_in (drop at s) ≡ []
 none_by s at false a x t q e n = none_left s at (ltb-false at (length s) t)
 none_by s at true (fault f) x t q e n = in_stop (drop at s) f q
-none_by s at true (whole r) x t q e n = absurd (no_record at r (rw e at n))
+none_by s at true (whole r) x t q e n = absurd (n (record_at at r) e)
 
 pub none_at : (s : List ℕ) (at : ℕ) (x : Ahead) → x ≡ ahead_of 1023 s at → NoRecord x → records_in (drop at s) ≡ []
 unfolding ahead_of
@@ -152,7 +150,7 @@ in_encode cap (r ∷ rs) l =
     ∙ ap (λ (t : List Rec). r ∷ t) (in_encode (r.level + 1) rs l.1)
 
 -- the records of a stream that reads to its end are those that are read
-pub in_read : (s : List ℕ) → Bytes s → (read_all s).stop ≡ none → records_in s ≡ (read_all s).recs
+pub in_read : (s : List ℕ) → Bytes s → (read_all s).stop ≡ None → records_in s ≡ (read_all s).recs
 unfolding read_all
 in_read s bs e =
     let k = encode_read 0 s bs e in

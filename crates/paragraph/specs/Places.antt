@@ -1,65 +1,62 @@
 -- Where a paragraph's children stand, and the place of what a fault names (document 01, the table's column 'Place'; document 02, A12).
-use Rattle.std.specs.Prelude.{ℕ, zero, suc, ◌+◌, ◌*◌, ◌≤◌, min, Bool, cond, List, [], ◌∷◌, eqb, length, take, drop}
-use Rattle.std.proofs.Math.Option.{Option, none, some}
+use Rattle.text.specs.Answers.{Judged, judged}
+use Rattle.std.specs.Prelude.{ℕ, zero, suc, ◌+◌, ◌*◌, ◌≤◌, min, Bool, cond, List, [], ◌∷◌, eqb, length, take, drop, Err, None, Ok, Option, Result, Some}
 use Rattle.records.specs.Kinds as kind
 use Rattle.records.specs.Records.{Rec, size}
 use Rattle.records.specs.Reading.{offset, record_at}
+use Rattle.records.specs.declared.fault.Fault.TheVariants as F
 use Rattle.records.specs.declared.fault.Offset.{Offset}
 use Rattle.records.specs.declared.header.Record.{Record}
 use Rattle.text.specs.declared.Position.{Position}
 use Rattle.text.specs.Units.{units}
-use Rattle.text.specs.Answers.{judged}
-use Rattle.text.specs.declared.Judged.{Judged}
-use Rattle.text.specs.declared.Judged.TheVariants as judgement
-use Rattle.paragraph.specs.View.{side, kids, controls}
+use Rattle.paragraph.specs.View.{side, owned_if, kids, controls}
 use Rattle.paragraph.specs.declared.view.Side.{Side}
 use Rattle.paragraph.specs.declared.view.Side.TheVariants as S
 use Rattle.paragraph.specs.declared.finding.Which.{Which}
 use Rattle.paragraph.specs.declared.finding.Which.TheVariants as W
-use Rattle.paragraph.specs.Rules.{Lengths}
-use Rattle.paragraph.specs.declared.fields.Owner.{Owner}
-use Rattle.paragraph.specs.declared.fields.Owner.TheVariants as O
+use Rattle.paragraph.specs.Rules.{Lengths, Owner, breach}
+use Rattle.paragraph.specs.declared.finding.Breach.{Breach}
 use Rattle.paragraph.specs.declared.fields.Owned.{Owned}
 use Rattle.paragraph.specs.declared.fields.Owned.TheVariants as K
 use Rattle.paragraph.specs.declared.children.Parts.{Parts}
-use Rattle.paragraph.specs.declared.children.Found.{Found}
-use Rattle.paragraph.specs.declared.children.Found.TheVariants as P
+
+-- what a search finds: a record, or none
+abbrev pub Found : Type 0
+Found = Option Record
 
 -- a child with another tag is passed in a search for `tag`
 abbrev pub sought_by : Side → ℕ → ℕ → Side
-sought_by S.Beyond tag t = S.Beyond
-sought_by S.Owned tag t = cond (eqb t tag) S.Owned S.Passed
-sought_by S.Passed tag t = S.Passed
+sought_by x tag t = owned_if (eqb t tag) x
 
 unfoldable pub sought : ℕ → ℕ → ℕ → ℕ → Side
 sought n tag t level = sought_by (side n t level) tag t
 
 -- the nth child with a tag, among children at level n; the first of the records stands at `at`
 unfoldable pub found_in : ℕ → ℕ → ℕ → ℕ → List Rec → Found
-found_in n tag nth at [] = P.Nothing
+found_in n tag nth at [] = None
 found_in n tag nth at (r ∷ rs) =
     elim (sought n tag r.tag r.level) [
-      | S.Beyond ↦ P.Nothing
+      | S.Beyond ↦ None
       | S.Passed ↦ found_in n tag nth (at + size r) rs
-      | S.Owned ↦ elim nth [ zero ↦ P.At (record_at at r) | suc k ↦ found_in n tag k (at + size r) rs ]
+      | S.Owned ↦ elim nth [ zero ↦ Some (record_at at r) | suc k ↦ found_in n tag k (at + size r) rs ]
     ]
 
 -- a search's result by the bytes: the length of the body, and the body
 abbrev pub length_found : Found → Option ℕ
-length_found (P.At p) = some p.len
-length_found P.Nothing = none
+length_found (Some p) = Some p.len
+length_found None = None
 
 abbrev pub body_of : List ℕ → Record → List ℕ
 body_of s p = take p.len (drop p.body.0 s)
 
 abbrev pub body_found : List ℕ → Found → Option (List ℕ)
-body_found s (P.At p) = some (body_of s p)
-body_found s P.Nothing = none
+body_found s (Some p) = Some (body_of s p)
+body_found s None = None
 
 -- it is within the stream
 abbrev pub Inside : List ℕ → Found → Type 0
-Inside s (P.At p) = p.body.0 + p.len ≤ length s
-Inside s P.Nothing = Unit {0}
+Inside s (Some p) = p.body.0 + p.len ≤ length s
+Inside s None = Unit {0}
 
 -- the four records that a paragraph has at most one of, and how many control headers it has
 unfoldable pub parts_in : ℕ → ℕ → List Rec → Parts
@@ -74,8 +71,8 @@ parts_in n at rs =
 
 -- what was found before, or this record where it is the one sought
 abbrev pub taken_as : Found → Bool → Record → Found
-taken_as (P.At q) is p = P.At q
-taken_as P.Nothing is p = cond is (P.At p) P.Nothing
+taken_as (Some q) is p = Some q
+taken_as None is p = cond is (Some p) None
 
 abbrev pub lengths_found : Parts → Lengths
 lengths_found p =
@@ -88,31 +85,36 @@ lengths_found p =
 
 -- the control header that was found for a field
 abbrev pub header_found : Found → Owned
-header_found (P.At p) = K.Header p
-header_found P.Nothing = K.Lacking
+header_found (Some p) = K.Header p
+header_found None = K.Lacking
 
 -- the next control header, behind k of them, is what a control owns; only a field's is looked for
 abbrev pub owned_by : ℕ → ℕ → ℕ → List Rec → Owner → Owned
-owned_by n k at rs O.Nobody = K.Nobody
-owned_by n k at rs (O.Owner code) = cond (eqb code 3) (header_found (found_in n kind.control_header k at rs)) K.Other
+owned_by n k at rs None = K.Nobody
+owned_by n k at rs (Some code) = cond (eqb code 3) (header_found (found_in n kind.control_header k at rs)) K.Other
 
 -- what the walk of a text finds: an absent text has no extended controls
 abbrev pub text_judged : Found → List ℕ → Judged
-text_judged (P.At p) b = judged (units b)
-text_judged P.Nothing b = judgement.Sound 0
+text_judged (Some p) b = judged (units b)
+text_judged None b = Ok 0
+
+-- 12 names the unit at which a text breaks a rule
+abbrev pub text_told : Judged → Result ℕ Breach
+text_told (Ok n) = Ok n
+text_told (Err p) = Err (breach F.TextRule (W.Unit p))
 
 -- the place of what was found and that of its body, or p where nothing was
 abbrev pub place_found : ℕ → Found → ℕ
-place_found p (P.At r) = r.at.0
-place_found p P.Nothing = p
+place_found p (Some r) = r.at.0
+place_found p None = p
 
 abbrev pub body_place : ℕ → Found → ℕ
-body_place p (P.At r) = r.body.0
-body_place p P.Nothing = p
+body_place p (Some r) = r.body.0
+body_place p None = p
 
 -- the nth child with a tag of the paragraph whose header is the first of the records and stands at `at`
 unfoldable pub child_in : ℕ → List Rec → ℕ → ℕ → Found
-child_in at [] tag nth = P.Nothing
+child_in at [] tag nth = None
 child_in at (r ∷ rs) tag nth = found_in (suc r.level) tag nth (at + size r) rs
 
 -- the place of a position of the text whose first byte stands at `text`: a unit is two bytes; a number has 64 bits

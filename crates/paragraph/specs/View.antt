@@ -1,6 +1,5 @@
 -- A paragraph's view: its header's body and the direct children that document 01's paragraph rules speak of ('Paragraphs').
-use Rattle.std.specs.Prelude.{ℕ, suc, cond, ◌&&◌, List, [], ◌∷◌, ltb, leb, eqb}
-use Rattle.std.proofs.Math.Option.{Option, none, some}
+use Rattle.std.specs.Prelude.{ℕ, suc, Bool, cond, ◌&&◌, List, [], ◌∷◌, ltb, leb, eqb, None, Option, Some}
 use Rattle.records.specs.Kinds as kind
 use Rattle.records.specs.Records.{Rec}
 use Rattle.records.specs.Parents.{keep_if}
@@ -11,6 +10,12 @@ use Rattle.paragraph.specs.declared.view.Side.TheVariants as S
 -- an owned child (a direct child with a tag from 67 to 71), or something else below it
 unfoldable pub side : ℕ → ℕ → ℕ → Side
 side n tag level = cond (ltb level n) S.Beyond (cond (eqb level n && (leb kind.text tag && leb tag kind.control_header)) S.Owned S.Passed)
+
+-- an owned child stays one where the test holds, and is passed else
+abbrev pub owned_if : Bool → Side → Side
+owned_if keeps S.Beyond = S.Beyond
+owned_if keeps S.Owned = cond keeps S.Owned S.Passed
+owned_if keeps S.Passed = S.Passed
 
 -- the owned children at level n, from the records behind their parent
 unfoldable pub keep : Side → Rec → List Rec → List Rec
@@ -43,8 +48,8 @@ views (r ∷ rs) = cond (eqb r.tag kind.paragraph_header) (view r rs ∷ views r
 
 -- the body of the first child with a tag
 unfoldable pub child : ℕ → List Rec → Option (List ℕ)
-child t [] = none
-child t (r ∷ k) = cond (eqb r.tag t) (some r.body) (child t k)
+child t [] = None
+child t (r ∷ k) = cond (eqb r.tag t) (Some r.body) (child t k)
 
 -- the control headers among the children, in stream order: the nth belongs to the nth extended control
 unfoldable pub controls : List Rec → List (List ℕ)

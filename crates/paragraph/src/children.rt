@@ -2,68 +2,43 @@
 ghost use Rattle.std.specs.Prelude.{◌≡◌, drop};
 ghost use Rattle.paragraph.specs.Stream.{records_in};
 ghost use Rattle.paragraph.specs.Rules.{bytes_in};
-ghost use Rattle.paragraph.specs.Places.{sought, found_in, body_of, body_found};
+ghost use Rattle.paragraph.specs.Places.{found_in, body_of, body_found};
 
+use crate::stream::records_from;
 use crate::view::{Side, stands_to};
 use numbers::part;
-use records::{Ahead, Offset, Record, record_at};
+use records::{Offset, Record};
 
-#[derive(Clone, Copy)]
-pub enum Found {
-    At(Record),
-    Nothing,
-}
-
-// How a record stands to a search for a tag among the children at level n.
-fn seeks(n: u32, tag: u32, other: u32, level: u32) -> Side
-    ensures { result ≡ sought n tag other level }
-{
-    match stands_to(n, other, level) {
-        Side::Beyond => Side::Beyond,
-        Side::Owned => {
-            if other == tag {
-                Side::Owned
-            } else {
-                Side::Passed
-            }
-        }
-        Side::Passed => Side::Passed,
-    }
-}
-
-// The nth child with a tag, among children at level n; the records behind the parent begin at `from`.
-pub fn find(s: &[u8], from: Offset, n: u32, tag: u32, nth: usize) -> Found
+// The nth child with a tag, among children at level n; the records behind the parent begin at `from`. Here and above the place moves on while stream
+// and level stay, so no struct holds the three.
+pub fn find(s: &[u8], from: Offset, n: u32, tag: u32, nth: usize) -> Option<Record>
     ensures { result ≡ found_in n tag nth from.0 (records_in (drop from.0 s.now)) }
 {
-    let mut at = from;
     let mut left = nth;
-    loop {
-        let Ahead::Record(r) = record_at(s, at, 1023) else {
-            return Found::Nothing;
-        };
-        match seeks(n, tag, r.tag, r.level) {
+    for r in records_from(s, from) {
+        match stands_to(n, r.tag, r.level).owned_if(r.tag == tag) {
             Side::Beyond => {
-                return Found::Nothing;
+                return None;
             }
             Side::Owned => {
                 if left == 0 {
-                    return Found::At(r);
+                    return Some(r);
                 }
-                left = left - 1;
+                left -= 1;
             }
             Side::Passed => {}
         }
-        at = r.next;
     }
+    None
 }
 
 // The four records that a paragraph has at most one of, and how many control headers it has.
 #[derive(Clone, Copy)]
 pub struct Parts {
-    pub text: Found,
-    pub shapes: Found,
-    pub layout: Found,
-    pub marks: Found,
+    pub text: Option<Record>,
+    pub shapes: Option<Record>,
+    pub layout: Option<Record>,
+    pub marks: Option<Record>,
     pub controls: usize,
 }
 
@@ -71,16 +46,12 @@ pub struct Parts {
 pub fn body<'a>(s: &'a [u8], r: Record) -> &'a [u8]
     ensures { result.now ≡ body_of s.now r }
 {
-    let from = r.body;
-    part(s, from.0, r.len)
+    part(s, r.body.0, r.len)
 }
 
 // The bytes of a body; an absent record has none.
-pub fn bytes<'a>(s: &'a [u8], f: Found) -> &'a [u8]
+pub fn bytes<'a>(s: &'a [u8], f: Option<Record>) -> &'a [u8]
     ensures { result.now ≡ bytes_in (body_found s.now f) }
 {
-    match f {
-        Found::Nothing => &s[0..0],
-        Found::At(p) => body(s, p),
-    }
+    f.map_or(&s[..0], |r| body(s, r))
 }

@@ -4,60 +4,28 @@ ghost use Rattle.paragraph.specs.Stream.{records_in};
 ghost use Rattle.paragraph.specs.Rules.{owner_of, field_short};
 ghost use Rattle.paragraph.specs.Places.{owned_by, unit_place};
 
-use crate::children::{Found, find};
-use numbers::number16;
+use crate::children::find;
+use numbers::little;
 use records::{Kind, Offset, Record};
-use text::{Class, Position, Standing};
-
-// What an extended control owns: a control header, by the control's code.
-#[derive(Clone, Copy)]
-pub enum Owner {
-    Nobody,
-    Owner(u32),
-}
-
-fn owner_of(what: Standing) -> Owner
-    ensures { result ≡ owner_of what }
-{
-    match what {
-        Standing::Ordinary(_) => Owner::Nobody,
-        Standing::Control(c) => {
-            let class = c.class;
-            let code = c.code;
-            match class {
-                Class::Character => Owner::Nobody,
-                Class::Inline => Owner::Nobody,
-                Class::Extended => Owner::Owner(code),
-            }
-        }
-    }
-}
+use text::{Class, Control, Position, Standing};
 
 // The place of a position of the text whose first byte stands at `text`. Only here does a position become a place; a sum that no
 // number holds is given as the largest.
 pub fn unit_place(text: Offset, position: Position) -> Offset
     ensures { result ≡ unit_place text position }
 {
-    let first = text.0;
-    let units = position.0;
-    if (18446744073709551615 - first) / 2 < units {
-        return Offset(18446744073709551615);
-    }
-    Offset(first + 2 * units)
+    Offset(text.0.saturating_add(position.0.saturating_mul(2)))
 }
 
 // A field's control header is too short for its command.
+#[tactic(auto, using(numbers::proofs::LittleLaws::part_rest), unfolding(crate::specs::Rules::field_short))]
 pub fn field_short(body: &[u8]) -> bool
     ensures { result ≡ field_short body.now }
 {
-    if body.len() < 15 {
-        return true;
-    }
-    let command = number16(&body[9..]);
-    body.len() < 15 + 2 * (command as usize)
+    body.len() < 15 || body.len() < 15 + 2 * (little::<2>(&body[9..]) as usize)
 }
 
-// The control header that something in the text owns.
+// The control header that something in the text owns: four ways on.
 #[derive(Clone, Copy)]
 pub enum Owned {
     // It owns none.
@@ -73,16 +41,17 @@ pub enum Owned {
 pub fn owned_header(s: &[u8], at: Offset, n: u32, skipped: usize, what: Standing) -> Owned
     ensures { result ≡ owned_by n skipped at.0 (records_in (drop at.0 s.now)) (owner_of what) }
 {
-    match owner_of(what) {
-        Owner::Nobody => Owned::Nobody,
-        Owner::Owner(code) => {
-            if code != 3 {
-                return Owned::Other;
-            }
-            match find(s, at, n, Kind::CONTROL_HEADER, skipped) {
-                Found::At(p) => Owned::Header(p),
-                Found::Nothing => Owned::Lacking,
-            }
-        }
+    let Standing::Control(
+        Control {
+            class: Class::Extended,
+            code,
+        },
+    ) = what
+    else {
+        return Owned::Nobody;
+    };
+    if code != 3 {
+        return Owned::Other;
     }
+    find(s, at, n, Kind::CONTROL_HEADER, skipped).map_or(Owned::Lacking, Owned::Header)
 }

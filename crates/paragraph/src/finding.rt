@@ -21,8 +21,12 @@ pub enum Which {
     Entry { tag: u32, from: Offset },
 }
 
+// A rule that is broken: the fault, and what it names.
 #[derive(Clone, Copy)]
-pub enum Finding {
-    Lawful,
-    Breach { fault: Fault, which: Which },
+pub struct Breach {
+    pub fault: Fault,
+    pub which: Which,
 }
+
+// What a rule finds: nothing against it, or a breach.
+pub type Finding = Result<(), Breach>;

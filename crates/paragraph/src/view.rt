@@ -1,9 +1,10 @@
 // How the records behind a paragraph header stand to it.
 ghost use Rattle.std.specs.Prelude.{◌≡◌};
-ghost use Rattle.paragraph.specs.View.{side};
+ghost use Rattle.paragraph.specs.View.{side, owned_if};
 
 use records::Kind;
 
+// How a record stands to a parent: three ways on.
 #[derive(Clone, Copy)]
 pub enum Side {
     // Behind the last record below the parent.
@@ -14,21 +15,28 @@ pub enum Side {
     Passed,
 }
 
+impl Side {
+    // An owned child stays one where the test holds, and is passed else.
+    pub fn owned_if(self, keeps: bool) -> Side
+        ensures { result ≡ owned_if keeps self }
+    {
+        match self {
+            Side::Owned if !keeps => Side::Passed,
+            side => side,
+        }
+    }
+}
+
 // How a record stands to a parent whose children are at level n.
+#[tactic(auto, unfolding(crate::specs::View::side))]
 pub fn stands_to(n: u32, tag: u32, level: u32) -> Side
     ensures { result ≡ side n tag level }
 {
     if level < n {
-        return Side::Beyond;
+        Side::Beyond
+    } else if level == n && (Kind::TEXT..=Kind::CONTROL_HEADER).contains(&tag) {
+        Side::Owned
+    } else {
+        Side::Passed
     }
-    if n < level {
-        return Side::Passed;
-    }
-    if tag < Kind::TEXT {
-        return Side::Passed;
-    }
-    if Kind::CONTROL_HEADER < tag {
-        return Side::Passed;
-    }
-    Side::Owned
 }

@@ -4,8 +4,6 @@ use native.Mathlib.Omega.{arith}
 use mathlib.Core.Path.{◌≡◌, refl, sym, ap, ap₂, ◌∙◌}
 use mathlib.Core.Bool.{Bool, true, false, cond, ◌&&◌, ◌||◌}
 use mathlib.Core.List.{List, [], ◌∷◌, ◌++◌, map, append_assoc, append-nil}
-use lib.Dec.{leb}
-use borrow.Author.Tests.{lt-leb, le-leb}
 use lib.ListN.{length, take, drop, length-drop}
 use lib.Seq.{drop-drop, take_all}
 use Rattle.numbers.specs.Little.{Bytes, little, bytes_of}
@@ -13,7 +11,9 @@ use Rattle.numbers.proofs.LittleLaws.{bytes_drop, bytes_of-little, length-bytes_
 use Rattle.entries.specs.Entries.{entries}
 use Rattle.entries.proofs.EntryLaws.{entries_next, entries_end}
 use Rattle.filling.specs.Shapes.{Entry, entry_at, inside, any_inside, start_at, moved, packed, shapes_in, shapes_after}
-use Rattle.putting.specs.Putting.{largest, Puts}
+use Rattle.putting.specs.Sheet.{Put}
+use Rattle.putting.specs.declared.put.Sheet.{Sheet}
+use Rattle.putting.specs.declared.shapes.Change.{Change}
 use Rattle.putting.specs.Keeping.{shapes_from, kept}
 use Rattle.putting.proofs.PuttingLaws.{Left, left_start, left_next, left_done}
 
@@ -29,17 +29,6 @@ shapes-next body i h =
 
 pub shapes_end : (body : List ℕ) (i : ℕ) → length body / 8 ≤ i → shapes_from body i ≡ []
 shapes_end body i h = ap (map entry_at) (entries_end 8 (length body / 8) i body h)
-
--- ---- is a start inside
-
-module _ (a b s : ℕ) where
-  pub inside_low : s < a → false ≡ inside a b s
-  unfolding inside
-  inside_low h = rw (lt-leb a s h)
-
-  pub inside_by : a ≤ s → leb s b ≡ inside a b s
-  unfolding inside
-  inside_by h = rw (le-leb a s h)
 
 -- ---- the scan ahead
 
@@ -95,34 +84,34 @@ module _ (a b v : ℕ) (e : Entry) (es : List Entry) where
 
 -- ---- the loops
 
-pub record Scanning (body : List ℕ) (a b from n i : ℕ) : Type 0 where
-  pub number : n ≡ length body / 8
+-- what is found from number `from` on is what is found from number i on
+pub record Scanning (body : List ℕ) (a b from i : ℕ) : Type 0 where
   pub rest : any_inside a b (shapes_from body from) ≡ any_inside a b (shapes_from body i)
 
-module _ {body : List ℕ} {a b from n i : ℕ} (k : Scanning body a b from n i) where
-  module _ {y : ℕ} {w : Bool} (h : i < n) (e : y ≡ (entry_at (drop (8 * i) body)).start) (t : w ≡ inside a b y) where
+module _ {body : List ℕ} {a b from i : ℕ} (k : Scanning body a b from i) where
+  module _ {y : ℕ} {w : Bool} (h : i < length body / 8) (e : y ≡ (entry_at (drop (8 * i) body)).start) (t : w ≡ inside a b y) where
     scan_next : any_inside a b (shapes_from body from) ≡ w || any_inside a b (shapes_from body (i + 1))
     scan_next =
-        k.rest ∙ any_next body a b i (rw k.number at h)
+        k.rest ∙ any_next body a b i h
         ∙ ap (λ (x : Bool). x || any_inside a b (shapes_from body (i + 1))) (sym (t ∙ ap (inside a b) e))
 
     pub scan_here : w ≡ true → true ≡ any_inside a b (shapes_from body from)
     scan_here g = sym (scan_next ∙ rw g)
 
-    pub scan_later : w ≡ false → Scanning body a b from n (i + 1)
-    scan_later g = record { number = k.number; rest = scan_next ∙ rw g }
+    pub scan_later : w ≡ false → Scanning body a b from (i + 1)
+    scan_later g = record { rest = scan_next ∙ rw g }
 
-  pub scan_end : n ≤ i → false ≡ any_inside a b (shapes_from body from)
-  scan_end h = any_end body a b i (rw k.number at h) ∙ sym k.rest
+  pub scan_end : length body / 8 ≤ i → false ≡ any_inside a b (shapes_from body from)
+  scan_end h = any_end body a b i h ∙ sym k.rest
 
 -- what becomes of entry i, whose start is y
 module _ (a b v : ℕ) (body : List ℕ) (i : ℕ) {y : ℕ} {w : Bool} (e : y ≡ (entry_at (drop (8 * i) body)).start) (t : w ≡ inside a b y) where
-  within-is : w ≡ inside a b (entry_at (drop (8 * i) body)).start
-  within-is = t ∙ ap (inside a b) e
+  meets-is : w ≡ inside a b (entry_at (drop (8 * i) body)).start
+  meets-is = t ∙ ap (inside a b) e
 
   pub kept_not : {z : Bool} → w ≡ true → z ≡ any_inside a b (shapes_from body (i + 1)) → z ≡ true
       → packed (kept a b v (entry_at (drop (8 * i) body)) (shapes_from body (i + 1))) ≡ []
-  kept_not g r u = kept_none a b v (entry_at (drop (8 * i) body)) (shapes_from body (i + 1)) (sym within-is ∙ g) (sym r ∙ u)
+  kept_not g r u = kept_none a b v (entry_at (drop (8 * i) body)) (shapes_from body (i + 1)) (sym meets-is ∙ g) (sym r ∙ u)
 
   -- the bytes of one that is kept
   module _ (bs : Bytes body) (h : i < length body / 8) {m : ℕ} (g : m ≡ moved a b v y) where
@@ -143,34 +132,29 @@ module _ (a b v : ℕ) (body : List ℕ) (i : ℕ) {y : ℕ} {w : Bool} (e : y �
 
     pub kept_outside : w ≡ false
         → take 4 (bytes_of 4 m) ++ take 4 (drop (8 * i + 4) body) ≡ packed (kept a b v (entry_at (drop (8 * i) body)) (shapes_from body (i + 1)))
-    kept_outside u = sym (kept_out a b v (entry_at (drop (8 * i) body)) (shapes_from body (i + 1)) (sym within-is ∙ u) ∙ both)
+    kept_outside u = sym (kept_out a b v (entry_at (drop (8 * i) body)) (shapes_from body (i + 1)) (sym meets-is ∙ u) ∙ both)
 
     pub kept_latest : {z : Bool} → z ≡ any_inside a b (shapes_from body (i + 1)) → z ≡ false
         → take 4 (bytes_of 4 m) ++ take 4 (drop (8 * i + 4) body) ≡ packed (kept a b v (entry_at (drop (8 * i) body)) (shapes_from body (i + 1)))
     kept_latest r u = sym (kept_last a b v (entry_at (drop (8 * i) body)) (shapes_from body (i + 1)) (sym r ∙ u) ∙ both)
 
 -- what is left of the entries from number i on
-pub record Keeping (out₀ : List ℕ) (at₀ : ℕ) (body : List ℕ) (a b v n i p : ℕ) (out : List ℕ) : Type 0 where
-  pub number : n ≡ length body / 8
-  pub left : Left out₀ at₀ (packed (shapes_after a b v (shapes_in body))) (packed (shapes_after a b v (shapes_from body i))) p out
+abbrev pub Keeping : Sheet → List ℕ → Change → ℕ → Sheet → Type 0
+Keeping s body c i t =
+    Left s (packed (shapes_after c.a.0 c.b.0 c.v (shapes_in body))) (packed (shapes_after c.a.0 c.b.0 c.v (shapes_from body i))) t
 
-pub keeping_start : (out : List ℕ) (at : ℕ) (body : List ℕ) (a b v : ℕ) → length out ≤ largest → at ≤ largest → Keeping out at body a b v (length body / 8) 0 at out
-keeping_start out at body a b v h k =
-    record { number = refl; left = left_start out at _ _ h k (ap (λ (l : List Entry). packed (shapes_after a b v l)) (shapes_all body)) }
+pub keeping_start : (s : Sheet) (body : List ℕ) (c : Change) → Keeping s body c 0 s
+keeping_start s body c = left_start s (ap (λ (l : List Entry). packed (shapes_after c.a.0 c.b.0 c.v l)) (shapes_all body))
 
-module _ {out₀ body out : List ℕ} {at₀ a b v n i p : ℕ} (k : Keeping out₀ at₀ body a b v n i p out) where
-  pub keeping_next : {after : List ℕ} {q : ℕ} → i < n
-      → Puts out p (packed (kept a b v (entry_at (drop (8 * i) body)) (shapes_from body (i + 1)))) q after → Keeping out₀ at₀ body a b v n (i + 1) q after
-  keeping_next h t =
-      record {
-        number = k.number;
-        left =
-            left_next k.left
-            (ap (λ (l : List Entry). packed (shapes_after a b v l)) (shapes-next body i (rw k.number at h))
-            ∙ packed-kept a b v (entry_at (drop (8 * i) body)) (shapes_from body (i + 1)))
-            t;
-      }
+module _ {s t : Sheet} (body : List ℕ) (c : Change) {i : ℕ} (k : Keeping s body c i t) where
+  pub keeping_next : {u : Sheet} → i < length body / 8
+      → Put t (packed (kept c.a.0 c.b.0 c.v (entry_at (drop (8 * i) body)) (shapes_from body (i + 1)))) u → Keeping s body c (i + 1) u
+  keeping_next h p =
+      left_next k
+      (ap (λ (l : List Entry). packed (shapes_after c.a.0 c.b.0 c.v l)) (shapes-next body i h)
+      ∙ packed-kept c.a.0 c.b.0 c.v (entry_at (drop (8 * i) body)) (shapes_from body (i + 1)))
+      p
 
-  pub keeping_end : n ≤ i → Puts out₀ at₀ (packed (shapes_after a b v (shapes_in body))) p out
+  pub keeping_end : length body / 8 ≤ i → Put s (packed (shapes_after c.a.0 c.b.0 c.v (shapes_in body))) t
   unfolding packed shapes_after
-  keeping_end h = left_done k.left (ap (λ (l : List Entry). packed (shapes_after a b v l)) (shapes_end body i (rw k.number at h)))
+  keeping_end h = left_done k (ap (λ (l : List Entry). packed (shapes_after c.a.0 c.b.0 c.v l)) (shapes_end body i h))

@@ -3,10 +3,10 @@ use Prim.Native.Nat.{ℕ, zero, suc, ◌+◌, ◌-◌, ◌%◌, ◌≤◌, ◌<�
 use native.Mathlib.Omega.{arith}
 use mathlib.Core.Path.{◌≡◌, refl, sym, ap, ◌∙◌}
 use mathlib.Core.Bool.{Bool, true, false, cond}
-use mathlib.Core.List.{List, [], ◌∷◌, ◌++◌, append_assoc, append-nil}
+use mathlib.Core.List.{List, [], ◌∷◌, ◌++◌, append-nil}
 use lib.Dec.{ltb, leb}
 use borrow.Author.Tests.{leb-true, leb-false}
-use lib.ListN.{length, take, drop, set, length-append, length-take, length-drop, take-append-drop, drop_of_length-le}
+use lib.ListN.{length, take, drop, set, length-append, length-take, take-append-drop, drop_of_length-le}
 use lib.Seq.{sets, length-sets, take_all, length-take-le, take_at}
 use Rattle.numbers.specs.Little.{bytes_of, laid}
 use Rattle.numbers.proofs.LittleLaws.{length-bytes_of, laid-fits}
@@ -14,6 +14,8 @@ use Rattle.records.specs.Records.{header_of, lead_of}
 use Rattle.records.proofs.ReadingLaws.{length-header_of}
 use Rattle.pack.proofs.PutLaws.{sets_append, laid_at, four_low}
 use Rattle.putting.specs.Putting.{largest, Puts}
+use Rattle.putting.specs.Sheet.{Put}
+use Rattle.putting.specs.declared.put.Sheet.{Sheet}
 
 -- a store past the end is none
 set_past : (l : List ℕ) (i x : ℕ) → length l ≤ i → set l i x ≡ l
@@ -93,14 +95,6 @@ puts_lent out part some s at next h k e f g =
 pub puts_past : (out s : List ℕ) (at next : ℕ) → length out ≤ largest → length out ≤ at → next ≡ min largest (at + length s) → Puts out at s next out
 puts_past out s at next h k g = record { room = h; next-is = g; after_is = sym (sets_past out at s k) }
 
--- the bytes that are put, named otherwise
-pub puts_as : {out after xs ys : List ℕ} {at next : ℕ} → xs ≡ ys → Puts out at xs next after → Puts out at ys next after
-puts_as e p = rw (← e) p
-
--- all behind the first n, as a part
-pub part_all : (s : List ℕ) (n : ℕ) → take (length s) (drop n s) ≡ drop n s
-part_all s n = take_all (length s) (drop n s) (omega (arith, length-drop n s))
-
 -- what was laid into an array of as many bytes, or of more
 pub laid_all : (bs zs all : List ℕ) → length bs ≡ length zs → all ≡ laid bs zs → all ≡ bs
 laid_all bs zs all h e =
@@ -125,32 +119,30 @@ pub head_of_lem : (tag level n lead : ℕ) (zs all : List ℕ) → length zs ≡
 head_of_lem tag level n lead zs all h k e =
     laid_first (header_of tag level n) zs all lead (omega (arith, length-header_of tag level n, lead_most n)) (length-header_of tag level n ∙ sym k) e
 
--- ---- a loop that puts: what it has put, and what is left
+-- ---- onto a sheet
 
-pub record Left (out₀ : List ℕ) (at₀ : ℕ) (all rest : List ℕ) (p : ℕ) (out : List ℕ) : Type 0 where
-  pub done : List ℕ
-  pub so_far : Puts out₀ at₀ done p out
-  pub all_is : all ≡ done ++ rest
-  pub same : length out ≡ length out₀
+module _ {s t : Sheet} where
+  pub put_then : {u : Sheet} {xs ys : List ℕ} → Put s xs t → Put t ys u → Put s (xs ++ ys) u
+  put_then a b = record { same = b.same ∙ a.same; puts = puts_then a.puts b.puts }
 
-pub puts_same : {out after bs : List ℕ} {at next : ℕ} → Puts out at bs next after → length after ≡ length out
-puts_same {out} {after} {bs} {at} k = ap length k.after_is ∙ length-sets out at bs
+  -- the bytes that are put, named otherwise
+  pub put_as : {xs ys : List ℕ} → xs ≡ ys → Put s xs t → Put s ys t
+  put_as e a = rw (← e) a
 
-pub left_start : (out : List ℕ) (at : ℕ) (all rest : List ℕ) → length out ≤ largest → at ≤ largest → all ≡ rest → Left out at all rest at out
-left_start out at all rest h k e = record { done = []; so_far = puts_none out at h k; all_is = e; same = refl }
+-- nothing put
+pub put_none : (s : Sheet) → Put s [] s
+put_none s = record { same = refl; puts = puts_none s.out.now s.at.0 s.room s.place }
 
-module _ {out₀ all rest out : List ℕ} {at₀ p : ℕ} where
-  pub left_next : {x more after : List ℕ} {q : ℕ} → Left out₀ at₀ all rest p out → rest ≡ x ++ more → Puts out p x q after → Left out₀ at₀ all more q after
-  left_next {x} {more} k e t =
-      record {
-        done = k.done ++ x;
-        so_far = puts_then k.so_far t;
-        all_is = k.all_is ∙ ap (λ (l : List ℕ). k.done ++ l) e ∙ sym (append_assoc k.done x more);
-        same = puts_same t ∙ k.same;
-      }
+-- ---- a loop that puts: from t on the rest is to be put, and from s on it is all
 
-  pub left_end : {after : List ℕ} {q : ℕ} → Left out₀ at₀ all rest p out → Puts out p rest q after → Puts out₀ at₀ all q after
-  left_end k t = puts_as (sym k.all_is) (puts_then k.so_far t)
+pub record Left (s : Sheet) (all rest : List ℕ) (t : Sheet) : Type 0 where
+  pub onward : (u : Sheet) → Put t rest u → Put s all u
 
-  pub left_done : Left out₀ at₀ all rest p out → rest ≡ [] → Puts out₀ at₀ all p out
-  left_done k e = puts_as (sym (k.all_is ∙ ap (λ (l : List ℕ). k.done ++ l) e ∙ append-nil k.done)) k.so_far
+pub left_start : (s : Sheet) {all rest : List ℕ} → all ≡ rest → Left s all rest s
+left_start s e = record { onward = λ u p. put_as (sym e) p }
+
+pub left_next : {s t u : Sheet} {all rest x more : List ℕ} → Left s all rest t → rest ≡ x ++ more → Put t x u → Left s all more u
+left_next k e p = record { onward = λ u q. k.onward u (put_as (sym e) (put_then p q)) }
+
+pub left_done : {s t : Sheet} {all rest : List ℕ} → Left s all rest t → rest ≡ [] → Put s all t
+left_done {s} {t} k e = k.onward t (put_as (sym e) (put_none t))

@@ -1,12 +1,11 @@
 // The character shapes after a fill.
 ghost use Rattle.std.specs.Prelude.{◌≡◌, ◌-◌, ◌/◌, ◌*◌, ◌+◌, ◌≤◌, ◌<◌, length, drop};
 ghost use Rattle.filling.specs.Shapes.{entry_at, inside, any_inside, moved, packed, shapes_in, shapes_after};
-ghost use Rattle.putting.specs.Putting.{Puts};
+ghost use Rattle.putting.specs.Sheet.{Put};
 ghost use Rattle.putting.specs.Keeping.{shapes_from, kept};
 
-use crate::put::{put_low, put_part};
-use numbers::{number32, wide};
-use records::Offset;
+use crate::put::Sheet;
+use numbers::{little, wide};
 use text::Position;
 
 // What a fill does to the positions of a text: those from a up to b go, v come in their place.
@@ -17,45 +16,36 @@ pub struct Change {
     pub v: u32,
 }
 
-// n less m, or 0 where m is more.
-pub fn less(n: usize, m: usize) -> usize
-    ensures { (result ≡ n - m) × (result ≤ n) }
-{
-    if m < n { n - m } else { 0 }
-}
-
-// How many positions lie from a up to b.
-pub fn between(a: Position, b: Position) -> usize
-    ensures { (result ≡ b.0 - a.0) × (result ≤ b.0) }
-{
-    less(b.0, a.0)
-}
-
-// A start from a to b inclusive.
-fn within(a: Position, b: Position, start: Position) -> bool
-    ensures { result ≡ inside a.0 b.0 start.0 }
-{
-    if a.0 <= start.0 {
-        return start.0 <= b.0;
+impl Change {
+    // How many positions go.
+    pub fn gone(self) -> usize
+        ensures { (result ≡ self.b.0 - self.a.0) × (result ≤ self.b.0) }
+    {
+        self.b.0.saturating_sub(self.a.0)
     }
-    false
-}
 
-// Where a start goes that is kept.
-fn new_start(change: Change, start: Position) -> Position
-    requires { start.0 < 4294967296 }
-    ensures { result.0 ≡ moved change.a.0 change.b.0 change.v start.0 }
-{
-    let a = change.a;
-    let b = change.b;
-    let v = wide(change.v);
-    if start.0 < a.0 {
-        return start;
+    // A start from a to b inclusive.
+    #[tactic(auto, unfolding(filling::specs::Shapes::inside))]
+    fn meets(self, start: Position) -> bool
+        ensures { result ≡ inside self.a.0 self.b.0 start.0 }
+    {
+        (self.a.0..=self.b.0).contains(&start.0)
     }
-    if b.0 < start.0 {
-        return Position(start.0 + v - between(a, b));
+
+    // Where a start goes that is kept.
+    #[tactic(auto, using(filling::proofs::ShapeLaws::moved_low, filling::proofs::ShapeLaws::moved_near, filling::proofs::ShapeLaws::moved_far))]
+    fn new_start(self, start: Position) -> Position
+        requires { start.0 < 4294967296 }
+        ensures { result.0 ≡ moved self.a.0 self.b.0 self.v start.0 }
+    {
+        if start.0 < self.a.0 {
+            return start;
+        }
+        if self.b.0 < start.0 {
+            return Position(start.0 + wide(self.v) - self.gone());
+        }
+        Position(self.a.0 + wide(self.v))
     }
-    Position(a.0 + v)
 }
 
 // Where entry i of a shapes record starts.
@@ -63,53 +53,39 @@ fn start_of(body: &[u8], i: usize) -> Position
     requires { i < length body.now / 8 }
     ensures { (result.0 ≡ (entry_at (drop (8 * i) body.now)).start) × (result.0 < 4294967296) }
 {
-    let from = 8 * i;
-    Position(wide(number32(&body[from..])))
+    Position(wide(little::<4>(&body[8 * i..])))
 }
 
 // An entry from number `from` on starts inside. On starts that rise the first one looked at tells, but for the last inside.
-fn any_inside(body: &[u8], from: usize, a: Position, b: Position) -> bool
-    ensures { result ≡ any_inside a.0 b.0 (shapes_from body.now from) }
+fn any_inside(body: &[u8], from: usize, change: Change) -> bool
+    ensures { result ≡ any_inside change.a.0 change.b.0 (shapes_from body.now from) }
 {
-    let n = body.len() / 8;
-    let mut i = from;
-    while i < n {
-        if within(a, b, start_of(body, i)) {
+    for i in from..body.len() / 8 {
+        if change.meets(start_of(body, i)) {
             return true;
         }
-        i = i + 1;
     }
     false
 }
 
 // Puts entry i with its new start, if it is kept.
-fn put_kept(out: &mut [u8], at: Offset, body: &[u8], i: usize, change: Change) -> Offset
+fn put_kept(sheet: &mut Sheet, body: &[u8], i: usize, change: Change)
     requires { i < length body.now / 8 }
-    ensures { Puts out.old at.0 (packed (kept change.a.0 change.b.0 change.v (entry_at (drop (8 * i) body.now)) (shapes_from body.now (i + 1)))) result.0 out.new }
+    ensures { Put sheet.old (packed (kept change.a.0 change.b.0 change.v (entry_at (drop (8 * i) body.now)) (shapes_from body.now (i + 1)))) sheet.new }
 {
-    let a = change.a;
-    let b = change.b;
     let start = start_of(body, i);
-    if within(a, b, start) {
-        if any_inside(body, i + 1, a, b) {
-            return at;
-        }
+    if change.meets(start) && any_inside(body, i + 1, change) {
+        return;
     }
-    let moved = new_start(change, start);
-    let behind = put_low(out, at, moved.0, 4);
-    put_part(out, behind, body, 8 * i + 4, 4)
+    sheet.put_low(change.new_start(start).0, 4);
+    sheet.put_part(body, 8 * i + 4, 4);
 }
 
 // Puts the entries: of those from a to b inclusive only the last is kept.
-pub fn put_entries(out: &mut [u8], at: Offset, body: &[u8], change: Change) -> Offset
-    ensures { Puts out.old at.0 (packed (shapes_after change.a.0 change.b.0 change.v (shapes_in body.now))) result.0 out.new }
+pub fn put_entries(sheet: &mut Sheet, body: &[u8], change: Change)
+    ensures { Put sheet.old (packed (shapes_after change.a.0 change.b.0 change.v (shapes_in body.now))) sheet.new }
 {
-    let n = body.len() / 8;
-    let mut i: usize = 0;
-    let mut p = at;
-    while i < n {
-        p = put_kept(out, p, body, i, change);
-        i = i + 1;
+    for i in 0..body.len() / 8 {
+        put_kept(sheet, body, i, change);
     }
-    p
 }

@@ -1,9 +1,9 @@
 -- The judgement of a whole text, step by step. Assumes nothing.
+use Rattle.std.specs.Prelude.{Err, Ok, Some}
 use Prim.Native.Nat.{ℕ, ◌+◌, ◌≤◌, ◌<◌}
 use native.Mathlib.Omega.{arith}
 use native.Mathlib.Nat.{add_assoc}
 use mathlib.Core.Path.{◌≡◌, refl, sym, ◌∙◌}
-use mathlib.Core.Option.{some}
 use mathlib.Core.List.{List, [], ◌∷◌}
 use lib.ListN.{length}
 use Rattle.text.specs.Walk.{Token, tokens, tokens_at, is_extended, extended_in, extended_count, fault_at, text_fault}
@@ -11,9 +11,9 @@ use Rattle.text.specs.Answers.{position, verdict, judged}
 use Rattle.text.specs.declared.Class.TheVariants.{Character, Inline, Extended}
 use Rattle.text.specs.declared.Standing.{Standing}
 use Rattle.text.specs.declared.Standing.TheVariants.{Ordinary, Control}
-use Rattle.text.specs.declared.Judged.TheVariants as judgement
-use Rattle.text.proofs.WalkLaws.{Ended}
-use Rattle.text.proofs.ControlLaws.{Reached}
+use Rattle.text.proofs.UnitLaws.{length-units}
+use Rattle.text.proofs.WalkLaws.{Ended, past_ended}
+use Rattle.text.proofs.ControlLaws.{Reached, control_stands, control_broken, control_lacking}
 
 -- up to p no fault was met, and k extended controls were
 pub record Walked (us : List ℕ) (p k : ℕ) : Type 0 where
@@ -49,16 +49,21 @@ walked_on {us} {p} {k} {q} {r} {n} {s} w h is =
       few = omega (arith, at_most_one s, w.few, h.from, h.onward.rises);
     })
 
-pub walked_broken : {us : List ℕ} {p k q : ℕ} → Walked us p k → fault_at us p ≡ some q → judgement.Broken (position q) ≡ judged us
+pub walked_broken : {us : List ℕ} {p k q : ℕ} → Walked us p k → fault_at us p ≡ Some q → Err (position q) ≡ judged us
 walked_broken w e = sym (rw e at w.whole)
 
-pub walked_end : {us : List ℕ} {p k : ℕ} → Walked us p k → Ended us p → judgement.Sound k ≡ judged us
+pub walked_end : {us : List ℕ} {p k : ℕ} → Walked us p k → Ended us p → Ok k ≡ judged us
 unfolding extended_in
 walked_end {us} {p} {k} w e =
     let z : k + 0 ≡ k = omega arith in
     sym (rw (e.fault, e.tokens, z) at w.whole)
 
-pub judged_none : (us : List ℕ) → length us ≡ 0 → judgement.Broken (position 0) ≡ judged us
+pub judged_none : (us : List ℕ) → length us ≡ 0 → Err (position 0) ≡ judged us
 unfolding judged text_fault
 judged_none [] h = refl
 judged_none (u ∷ us) h = absurd (omega arith)
+
+-- for attributes: the ways a control is met, and how the judgement goes on at each
+pub ruleset met_ways = (control_stands, control_broken, control_lacking, past_ended, length-units)
+
+pub ruleset judge_steps = (judged_none, walked_start, walked_on, walked_broken, walked_end)

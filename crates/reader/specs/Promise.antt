@@ -3,10 +3,9 @@ use Rattle.std.specs.Prelude.{ℕ, ◌≡◌, List}
 use Rattle.std.specs.Borrow.{Bor}
 use Rattle.text.specs.Promise.{only}
 use Rattle.text.specs.Units.{units}
-use Rattle.text.specs.Answers.{control_at, judged}
+use Rattle.text.specs.Answers.{control_at, judged, Judged}
 use Rattle.text.specs.declared.Position.{Position}
 use Rattle.text.specs.declared.Step.{Step}
-use Rattle.text.specs.declared.Judged.{Judged}
 use Rattle.reader.specs.Reading.{reader, ahead, standing}
 use Rattle.reader.specs.declared.Reader.{Reader}
 

@@ -1,34 +1,20 @@
--- The laws of answers: what is judged behind read, and the host's form. Assumes nothing.
-use Prim.Native.Nat.{ℕ, ◌+◌, ◌*◌, ◌/◌, ◌%◌, ◌≤◌, ◌<◌}
+-- The laws of answers: what is judged behind read, and what the host reads off its form. Assumes nothing.
+use Rattle.std.specs.Prelude.{Err, None, Ok, Option, Some}
+use Prim.Native.Nat.{ℕ, ◌/◌, ◌%◌, ◌≤◌, ◌<◌}
 use native.Mathlib.Omega.{arith}
-use mathlib.Core.Path.{◌≡◌, refl, sym, subst}
-use mathlib.Core.Option.{Option, none, some}
+use mathlib.Core.Path.{◌≡◌, refl}
 use Rattle.records.specs.Records.{limit}
 use Rattle.records.specs.Table.{after_read}
-use Rattle.records.specs.Answers.{number_of, place_bits, host_form, number, place}
+use Rattle.records.specs.Answers.{number_of, place_bits, host_form, number, place, Answer}
 use Rattle.records.specs.declared.fault.Fault.{Fault}
 use Rattle.records.specs.declared.fault.Fault.TheVariants as F
 use Rattle.records.specs.declared.fault.Refusal.{Refusal}
-use Rattle.records.specs.declared.fault.Answer.{Answer}
-use Rattle.records.specs.declared.fault.Answer.TheVariants as A
 
 -- what is judged behind read is accepted only where read accepts and nothing is at fault
-pub judged_accepted : (a : Answer) (o : Option Refusal) (n : ℕ) → after_read a o ≡ A.Accepted n → (a ≡ A.Accepted n) × (o ≡ none)
-judged_accepted (A.Accepted m) none n e = (e, refl)
-judged_accepted (A.Accepted m) (some r) n e = absurd (let z : ◌≡◌ {A = ℕ} 0 1 = cc in omega arith)
-judged_accepted (A.Refused r) o n e = absurd (let z : ◌≡◌ {A = ℕ} 0 1 = cc in omega arith)
-
-abbrev Formed : Answer → ℕ → Type 0
-Formed a h = h ≡ host_form (number a) (place_bits (place a)) 0
-
-pub host_accepted : (a : Answer) (n b : ℕ) → a ≡ A.Accepted n → b ≡ place_bits n → 256 * b ≡ host_form (number a) (place_bits (place a)) 0
-unfolding host_form
-host_accepted a n b e f = subst (λ (x : Answer). Formed x (256 * b)) (sym e) (omega arith)
-
-pub host_refused : (a : Answer) (r : Refusal) (m b : ℕ) → a ≡ A.Refused r → m ≡ number_of r.fault → b ≡ place_bits r.place.0
-    → m + 256 * b ≡ host_form (number a) (place_bits (place a)) 0
-unfolding host_form
-host_refused a r m b e g f = subst (λ (x : Answer). Formed x (m + 256 * b)) (sym e) (omega arith)
+pub judged_accepted : (a : Answer) (o : Option Refusal) (n : ℕ) → after_read a o ≡ Ok n → (a ≡ Ok n) × (o ≡ None)
+judged_accepted (Ok m) None n e = (e, refl)
+judged_accepted (Ok m) (Some r) n e = absurd (let z : ◌≡◌ {A = ℕ} 0 1 = cc in omega arith)
+judged_accepted (Err r) o n e = absurd (let z : ◌≡◌ {A = ℕ} 0 1 = cc in omega arith)
 
 -- a place within the limit stands in full
 pub in_full : {p : ℕ} → p ≤ limit → place_bits p ≡ p
@@ -75,10 +61,10 @@ fault-number F.ListTooShort = (omega arith, omega arith)
 fault-number F.ParentWrong = (omega arith, omega arith)
 
 pub answer_number : (a : Answer) → number a < 256
-answer_number (A.Accepted n) = omega arith
-answer_number (A.Refused r) = (fault-number r.fault).1
+answer_number (Ok n) = omega arith
+answer_number (Err r) = (fault-number r.fault).1
 
 -- number 0 is an acceptance
-pub zero_accepts : (a : Answer) → number a ≡ 0 → a ≡ A.Accepted (place a)
-zero_accepts (A.Accepted n) e = refl
-zero_accepts (A.Refused r) e = absurd (omega (arith, e, (fault-number r.fault).0))
+pub zero_accepts : (a : Answer) → number a ≡ 0 → a ≡ Ok (place a)
+zero_accepts (Ok n) e = refl
+zero_accepts (Err r) e = absurd (omega (arith, e, (fault-number r.fault).0))

@@ -15,7 +15,7 @@ use borrow.Author.Tests.{ltb-true, ltb-false, eq-eqb, ne_eqb}
 use Rattle.records.specs.Records.{Rec}
 use Rattle.records.specs.Parents.{parent_of, index_or, parent_index}
 use Rattle.records.specs.Table.{level_of, parents_from}
-use Rattle.records.specs.Climbing.{Held, Behind, agreeing, RightParents}
+use Rattle.records.specs.Climbing.{Held, Behind, ParentBehind, agreeing, RightParents}
 use Rattle.records.proofs.ParentLaws.{parent_skip, parent_here, parent_short}
 
 pub length-parents_from : (earlier rs : List Rec) → length (parents_from earlier rs) ≡ length rs
@@ -143,6 +143,43 @@ module _ (levels parents : List ℕ) where
           by (nothing there none) = absurd (n there)
           by (further next low) = record { next = next; low = low }
 
+-- the climb behind whatever records those are: where it stands, and its exits
+pub record Climbs (levels parents : List ℕ) (level index at : ℕ) : Type 0 where
+  pub in_levels : at < length levels
+  pub in_parents : at < length parents
+  pub so : (b : Behind levels parents index) → Climbing levels parents level b.earlier at
+
+pub climbs_start : {levels parents : List ℕ} {level index : ℕ} → Behind levels parents index → (index ≡ 0 → ⊥) → Climbs levels parents level index (index - 1)
+climbs_start {levels} {parents} {level} {index} b n =
+    record {
+      in_levels = omega (arith, n, b.in_levels);
+      in_parents = omega (arith, n, b.in_parents);
+      so = λ b. climb_start levels parents level b.earlier index b.count n b.held;
+    }
+
+module _ {levels parents : List ℕ} {level index at : ℕ} (k : Climbs levels parents level index at) where
+  pub climbs_end : get_or levels at 0 < level → ParentBehind levels parents index level at
+  climbs_end h b = climb_end levels parents level b.earlier at (k.so b) h
+
+  module _ (h : level ≤ get_or levels at 0) {up : ℕ} (e : up ≡ get_or parents at 0) where
+    pub climbs_none : up ≡ at → ParentBehind levels parents index level index
+    climbs_none q b = sym b.count ∙ climb_none levels parents level b.earlier at (k.so b) h (sym e ∙ q)
+
+    higher_than : (up ≡ at → ⊥) → (b : Behind levels parents index) → Higher levels parents level b.earlier at (k.so b) h
+    higher_than n b = climb_next levels parents level b.earlier at (k.so b) h (λ q. n (e ∙ q))
+
+    module _ (n : up ≡ at → ⊥) (b : Behind levels parents index) where
+      pub climbs_low : up < at
+      climbs_low = omega (arith, e, (higher_than n b).low)
+
+      pub climbs_next : Climbs levels parents level index up
+      climbs_next =
+          record {
+            in_levels = omega (arith, climbs_low, k.in_levels);
+            in_parents = omega (arith, climbs_low, k.in_parents);
+            so = λ a. rw e (higher_than n a).next;
+          }
+
 -- ---- one more record is held
 
 kept : (l : List ℕ) (v i j : ℕ) → j < i → get_or (set l i v) j 0 ≡ get_or l j 0
@@ -269,3 +306,32 @@ module _ (count : ℕ) (levels parents : List ℕ) where
           | yes g ↦ inr (omega (arith, length-drop i parents))
           | no g ↦ inl (let o : i < length parents = lt_of_not-le g in omega (arith, rest_is))
         ]
+
+-- whatever records those are, the first i entries are right
+pub record Agrees (count : ℕ) (levels parents : List ℕ) (i : ℕ) : Type 0 where
+  pub so : (rs : List Rec) → map level_of rs ≡ take count levels → Right count levels parents rs i
+
+pub agrees_start : {count : ℕ} {levels parents : List ℕ} → Agrees count levels parents 0
+agrees_start = record { so = right_start _ _ _ }
+
+module _ {count : ℕ} {levels parents : List ℕ} {i : ℕ} (k : Agrees count levels parents i) {n : ℕ} (m : n ≡ min count (min (length levels) (length parents))) where
+  module _ (h : i < n) where
+    abbrev behind_of : (rs : List Rec) → map level_of rs ≡ take count levels → Behind levels parents i
+    behind_of rs e = right-behind count levels parents rs i (k.so rs e) (omega arith) (omega arith)
+
+    pub agrees_behind : Behind levels parents i
+    agrees_behind = behind_of (bares (take count levels)) (bares_levels (take count levels))
+
+    module _ {p : ℕ} (f : ParentBehind levels parents i (get_or levels i 0) p) where
+      pub agrees_next : get_or parents i 0 ≡ p → Agrees count levels parents (i + 1)
+      agrees_next q =
+          record {
+            so = λ rs e. right-next count levels parents rs i (k.so rs e) (omega arith) (omega arith) (omega arith) (q ∙ f (behind_of rs e));
+          }
+
+      pub agrees_stop : (get_or parents i 0 ≡ p → ⊥) → RightParents (take count levels) parents i
+      agrees_stop q rs e =
+          right_stop count levels parents rs i (k.so rs e) (omega arith) (omega arith) (omega arith) (λ g. q (g ∙ sym (f (behind_of rs e))))
+
+  pub agrees_end : i ≡ n → RightParents (take count levels) parents n
+  agrees_end h rs e = sym h ∙ right_end count levels parents rs i (k.so rs e) (omega arith)

@@ -7,3 +7,4 @@ pub mod ClimbLaws
 pub mod ColumnLaws
 pub mod TableLaws
 pub mod Reader
+pub mod StepLaws

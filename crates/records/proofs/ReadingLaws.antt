@@ -1,12 +1,11 @@
 -- Reading and encoding undo each other: a record has one encoding, and a stream is the encoding of what is read from it. Assumes nothing.
+use Rattle.std.specs.Prelude.{Err, None, Ok, Option, Some}
 use Prim.Native.Nat.{ℕ, zero, suc, ◌+◌, ◌-◌, ◌/◌, ◌%◌, ◌≤◌, ◌<◌}
 use native.Mathlib.Omega.{arith}
 use native.Mathlib.Decide.{dec_le}
-use native.Mathlib.Nat.{lt_of_not-le, add_assoc}
+use native.Mathlib.Nat.{lt_of_not-le}
 use mathlib.Core.Path.{◌≡◌, refl, sym, ap, ap₂, ◌∙◌, subst}
-use mathlib.Core.Logic.{inl, inr}
 use mathlib.Core.Bool.{Bool, true, false, cond, not}
-use mathlib.Core.Option.{Option, none, some}
 use mathlib.Core.List.{List, [], ◌∷◌, ◌++◌, append_assoc, append-nil}
 use lib.Dec.{T, ltb, eqb, ltb→lt, nltb→le, eqb→eq, T_not, eqb_refl}
 use lib.ListN.{length, take, drop, length-append, length-drop, take-append-drop}
@@ -15,19 +14,13 @@ use borrow.Author.Tests.{ltb-true, ltb-false, lt-ltb, le-ltb, ne_eqb}
 use Rattle.numbers.specs.Little.{little, bytes_of, Bytes, span}
 use Rattle.numbers.proofs.LittleLaws.{bytes_drop, little_small, length-bytes_of, little-bytes_of, bytes_of-little, part_rest}
 use Rattle.records.specs.Records.{Rec, header_word, lead_of, header_of, encode_one, encode, size, RecordObeys, Lawful, Encodes}
-use Rattle.records.specs.Reading.{Stands, whole, fault, guard, body_at, long_at, word_at, stands_at, front_of, offset, record_at, ahead_by, ahead_of, Read, onto, read_from}
+use Rattle.records.specs.Reading.{Stands, whole, fault, guard, body_at, long_at, word_at, stands_at, front_of, record_at, ahead_by, ahead_of, Read, onto, read_from, Ahead, Front}
 use Rattle.records.specs.Answers.{refusal, further}
 use Rattle.records.specs.Stopping.{AtFront, cut, long_cut, small, past, long_past, reserved, deep, cap_behind}
 use Rattle.records.specs.declared.fault.Fault.{Fault}
 use Rattle.records.specs.declared.fault.Refusal.{Refusal}
 use Rattle.records.specs.declared.header.Header.{Header}
-use Rattle.records.specs.declared.header.Front.TheVariants as H
 use Rattle.records.specs.declared.header.Record.{Record}
-use Rattle.records.specs.declared.header.Ahead.{Ahead}
-use Rattle.records.specs.declared.header.Ahead.TheVariants as N
-use denote.Enum.Declared.{tag_of}
-use types.Run.{OneOf}
-use Rattle.records.specs.contracts.header.Ahead as ahead
 use Rattle.records.proofs.HeaderLaws.{lead_short, lead_long, lead_bounds, length_part}
 
 -- ---- the 32 bits of a header
@@ -177,12 +170,12 @@ abbrev FoundIf : ℕ → List ℕ → Stands → Type 0
 FoundIf cap s (fault f) = Unit {0}
 FoundIf cap s (whole r) = Found cap s r
 
-by_guard : (P : Stands → Type 0) (b : Bool) (f : Fault) (p : ℕ) (x : Stands) → (T b → P (fault (refusal f p))) → (T (not b) → P x) → P (guard b f p x)
+pub by_guard : (P : Stands → Type 0) (b : Bool) (f : Fault) (p : ℕ) (x : Stands) → (T b → P (fault (refusal f p))) → (T (not b) → P x) → P (guard b f p x)
 unfolding guard
 by_guard P true f p x stopped passed = stopped tt
 by_guard P false f p x stopped passed = passed tt
 
-by_cond : (P : Stands → Type 0) (b : Bool) (x y : Stands) → (T b → P x) → (T (not b) → P y) → P (cond b x y)
+pub by_cond : (P : Stands → Type 0) (b : Bool) (x y : Stands) → (T b → P x) → (T (not b) → P y) → P (cond b x y)
 by_cond P true x y f g = f tt
 by_cond P false x y f g = g tt
 
@@ -277,12 +270,12 @@ read_skip cap zero s = refl
 read_skip cap (suc k) [] = refl
 read_skip cap (suc k) (x ∷ s) = read_skip cap k s
 
-pub read_end : (cap : ℕ) (s : List ℕ) → length s ≡ 0 → read_from cap 0 s ≡ record { recs = []; stop = none }
+pub read_end : (cap : ℕ) (s : List ℕ) → length s ≡ 0 → read_from cap 0 s ≡ record { recs = []; stop = None }
 unfolding read_from
 read_end cap [] e = refl
 read_end cap (x ∷ s) e = absurd (omega arith)
 
-pub read_stop : (cap : ℕ) (s : List ℕ) (f : Refusal) → 0 < length s → stands_at cap s ≡ fault f → read_from cap 0 s ≡ record { recs = []; stop = some f }
+pub read_stop : (cap : ℕ) (s : List ℕ) (f : Refusal) → 0 < length s → stands_at cap s ≡ fault f → read_from cap 0 s ≡ record { recs = []; stop = Some f }
 unfolding read_from
 read_stop cap [] f h e = absurd (omega arith)
 read_stop cap (x ∷ s) f h e = rw (e, read_from)
@@ -297,7 +290,7 @@ read_next cap (x ∷ s) r h e =
 
 -- ---- reading what was encoded
 
-pub read_encode : (cap : ℕ) (rs : List Rec) → Lawful cap rs → read_from cap 0 (encode rs) ≡ record { recs = rs; stop = none }
+pub read_encode : (cap : ℕ) (rs : List Rec) → Lawful cap rs → read_from cap 0 (encode rs) ≡ record { recs = rs; stop = None }
 unfolding encode onto
 read_encode cap [] l = read_end cap [] refl
 read_encode cap (r ∷ rs) l =
@@ -346,8 +339,8 @@ front-inside cap s f (deep h) = omega arith
 
 -- what is left where reading came to its end
 abbrev pub Left : ℕ → List ℕ → Option Refusal → Type 0
-Left cap rest none = rest ≡ []
-Left cap rest (some f) = AtFront cap rest f
+Left cap rest None = rest ≡ []
+Left cap rest (Some f) = AtFront cap rest f
 
 -- what reading a stream came to, where the first level is at most cap
 pub record Reads (cap : ℕ) (s : List ℕ) (x : Read) : Type 0 where
@@ -394,7 +387,7 @@ pub reads : (cap : ℕ) (s : List ℕ) → Bytes s → Reads cap s (read_from ca
 reads cap s bs = reads_within (length s) cap s (omega arith) bs
 
 -- without a fault the stream is the encoding of the records
-pub encode_read : (cap : ℕ) (s : List ℕ) → Bytes s → (read_from cap 0 s).stop ≡ none → Encodes cap s (read_from cap 0 s).recs
+pub encode_read : (cap : ℕ) (s : List ℕ) → Bytes s → (read_from cap 0 s).stop ≡ None → Encodes cap s (read_from cap 0 s).recs
 encode_read cap s bs e =
     let k = reads cap s bs in
     let none_left : k.rest ≡ [] = subst (Left (cap_behind cap (read_from cap 0 s).recs) k.rest) e k.left in
@@ -402,8 +395,8 @@ encode_read cap s bs e =
 
 -- how far behind the records a fault is
 abbrev pub beyond : Option Refusal → ℕ
-beyond none = 0
-beyond (some f) = f.place.0
+beyond None = 0
+beyond (Some f) = f.place.0
 
 -- the records and the fault behind them lie within the stream
 pub read_prefix : (cap : ℕ) (s : List ℕ) → Bytes s → length (encode (read_from cap 0 s).recs) + beyond (read_from cap 0 s).stop ≤ length s
@@ -413,49 +406,36 @@ read_prefix cap s bs =
     omega (arith, l, by (cap_behind cap (read_from cap 0 s).recs) (read_from cap 0 s).stop k.rest k.left)
   where
     by : (most : ℕ) (o : Option Refusal) (rest : List ℕ) → Left most rest o → beyond o ≤ length rest
-    by most none rest h = omega arith
-    by most (some f) rest h = front-inside most rest f h
+    by most None rest h = omega arith
+    by most (Some f) rest h = front-inside most rest f h
 
--- ---- a header that was read from the part behind `at`
+-- ---- what was read from the part behind `at` stands inside
 
 module _ (s : List ℕ) (at cap : ℕ) (h : at < length s) where
-  -- the record that it is
-  front_by : (a : Stands) (k : Header) → stands_at cap (drop at s) ≡ a → front_of a ≡ H.Record k
-      → N.Record (record { at = offset at; tag = k.tag; level = k.level; body = offset (at + k.lead); len = k.len; next = offset (at + k.lead + k.len) })
-      ≡ ahead_by at (stands_at cap (drop at s))
+  abbrev read_there : Front
+  read_there = front_of (stands_at cap (take (length s - at) (drop at s)))
+
+  as_rest : front_of (stands_at cap (drop at s)) ≡ read_there
+  as_rest = ap (λ (l : List ℕ). front_of (stands_at cap l)) (sym (part_rest s at))
+
+  by_record : Bytes s → (a : Stands) (k : Header) → stands_at cap (drop at s) ≡ a → front_of a ≡ Ok k → at + k.lead + k.len ≤ length s
   unfolding size
-  front_by (fault f) k q e = absurd (let z : ◌≡◌ {A = ℕ} 0 1 = cc in omega arith)
-  front_by (whole r) k q e =
+  by_record bs (fault f) k q e = absurd (let z : ◌≡◌ {A = ℕ} 0 1 = cc in omega arith)
+  by_record bs (whole r) k q e =
       let same : record { tag = r.tag; level = r.level; lead = lead_of (length r.body); len = length r.body } ≡ k = cc in
-      rw (q, ← same) (ap (λ (i : ℕ). N.Record (record { at = offset at; tag = r.tag; level = r.level; body = offset (at + lead_of (length r.body)); len = length r.body; next = offset i })) (add_assoc at _ _))
+      rw (← same) (omega (arith, h, (found cap (drop at s) (bytes_drop at s bs) r q).inside, length-drop at s))
 
-  pub ahead_record : (k : Header) → front_of (stands_at cap (take (length s - at) (drop at s))) ≡ H.Record k
-      → N.Record (record { at = offset at; tag = k.tag; level = k.level; body = offset (at + k.lead); len = k.len; next = offset (at + k.lead + k.len) })
-      ≡ ahead_of cap s at
-  unfolding ahead_of
-  ahead_record k e =
-      rw (lt-ltb at (length s) h)
-      (front_by (stands_at cap (drop at s)) k refl (ap (λ (l : List ℕ). front_of (stands_at cap l)) (sym (part_rest s at)) ∙ e))
+  pub record_inside : (k : Header) → Bytes s → read_there ≡ Ok k → at + k.lead + k.len ≤ length s
+  record_inside k bs e = by_record bs (stands_at cap (drop at s)) k refl (as_rest ∙ e)
 
-  -- the fault that it is
-  stands_refused : (a : Stands) (f : Refusal) → front_of a ≡ H.Refused f → a ≡ fault f
-  stands_refused (fault g) f e = ap fault cc
-  stands_refused (whole r) f e = absurd (let z : ◌≡◌ {A = ℕ} 0 1 = cc in omega arith)
+  by_fault : (a : Stands) (f : Refusal) → front_of a ≡ Err f → a ≡ fault f
+  by_fault (fault g) f e = ap fault cc
+  by_fault (whole r) f e = absurd (let z : ◌≡◌ {A = ℕ} 0 1 = cc in omega arith)
 
-  module _ (f : Refusal) (e : front_of (stands_at cap (take (length s - at) (drop at s))) ≡ H.Refused f) where
-    refused : stands_at cap (drop at s) ≡ fault f
-    refused = stands_refused (stands_at cap (drop at s)) f (ap (λ (l : List ℕ). front_of (stands_at cap l)) (sym (part_rest s at)) ∙ e)
-
-    pub ahead_refused : N.Refused (further at f) ≡ ahead_of cap s at
-    unfolding ahead_of
-    ahead_refused = rw (lt-ltb at (length s) h, refused)
-
-    pub ahead-inside : at + f.place.0 ≤ length s
-    ahead-inside = omega (arith, h, length-drop at s, front-inside cap (drop at s) f (at_front cap (drop at s) f refused))
-
-pub ahead_end : (s : List ℕ) (at cap : ℕ) → length s ≤ at → N.End ≡ ahead_of cap s at
-unfolding ahead_of
-ahead_end s at cap h = rw (le-ltb at (length s) h)
+  pub fault_inside : (f : Refusal) → read_there ≡ Err f → at + f.place.0 ≤ length s
+  fault_inside f e =
+      let q = by_fault (stands_at cap (drop at s)) f (as_rest ∙ e) in
+      omega (arith, h, length-drop at s, front-inside cap (drop at s) f (at_front cap (drop at s) f q))
 
 -- the body is behind the lead
 pub body_behind : (r : Rec) (x : List ℕ) → encode_one r ≡ take (size r) x → size r ≤ length x
@@ -492,14 +472,14 @@ pub record Here (s : List ℕ) (at cap : ℕ) (r : Record) : Type 0 where
 pub record Stops (x : Read) (at : ℕ) (f : Refusal) : Type 0 where
   pub found : Refusal
   pub is : further at found ≡ f
-  pub reads : x ≡ record { recs = []; stop = some found }
+  pub reads : x ≡ record { recs = []; stop = Some found }
 
 module _ (s : List ℕ) (at cap : ℕ) where
   some_left : at < length s → 0 < length (drop at s)
   some_left h = omega (arith, length-drop at s)
 
   module _ (bs : Bytes s) where
-    here_by : (b : Bool) (a : Stands) (r : Record) → ltb at (length s) ≡ b → stands_at cap (drop at s) ≡ a → cond b (ahead_by at a) N.End ≡ N.Record r → Here s at cap r
+    here_by : (b : Bool) (a : Stands) (r : Record) → ltb at (length s) ≡ b → stands_at cap (drop at s) ≡ a → cond b (ahead_by at a) None ≡ Some (Ok r) → Here s at cap r
     unfolding size
     here_by false a r t q e = absurd (let z : ◌≡◌ {A = ℕ} 0 1 = cc in omega arith)
     here_by true (fault f) r t q e = absurd (let z : ◌≡◌ {A = ℕ} 0 1 = cc in omega arith)
@@ -527,49 +507,42 @@ module _ (s : List ℕ) (at cap : ℕ) where
           next = read_next cap (drop at s) k (some_left h) q ∙ ap (λ (l : List ℕ). onto k (read_from (k.level + 1) 0 l)) (drop-drop (size k) at s);
         })
 
-    pub here : (r : Record) → ahead_of cap s at ≡ N.Record r → Here s at cap r
+    pub here : (r : Record) → ahead_of cap s at ≡ Some (Ok r) → Here s at cap r
     unfolding ahead_of
     here r e = here_by (ltb at (length s)) (stands_at cap (drop at s)) r refl refl e
 
   -- and where it found none: a fault, with its place in the stream
-  stops_by : (b : Bool) (a : Stands) (f : Refusal) → ltb at (length s) ≡ b → stands_at cap (drop at s) ≡ a → cond b (ahead_by at a) N.End ≡ N.Refused f
+  stops_by : (b : Bool) (a : Stands) (f : Refusal) → ltb at (length s) ≡ b → stands_at cap (drop at s) ≡ a → cond b (ahead_by at a) None ≡ Some (Err f)
       → Stops (read_from cap 0 (drop at s)) at f
   stops_by false a f t q e = absurd (let z : ◌≡◌ {A = ℕ} 0 1 = cc in omega arith)
   stops_by true (whole k) f t q e = absurd (let z : ◌≡◌ {A = ℕ} 0 1 = cc in omega arith)
   stops_by true (fault g) f t q e = record { found = g; is = cc; reads = read_stop cap (drop at s) g (some_left (ltb-true at (length s) t)) q }
 
-  pub stops_here : (f : Refusal) → ahead_of cap s at ≡ N.Refused f → Stops (read_from cap 0 (drop at s)) at f
+  pub stops_here : (f : Refusal) → ahead_of cap s at ≡ Some (Err f) → Stops (read_from cap 0 (drop at s)) at f
   unfolding ahead_of
   stops_here f e = stops_by (ltb at (length s)) (stands_at cap (drop at s)) f refl refl e
 
-  ends_by : (b : Bool) (a : Stands) → ltb at (length s) ≡ b → cond b (ahead_by at a) N.End ≡ N.End → length s ≤ at
+  ends_by : (b : Bool) (a : Stands) → ltb at (length s) ≡ b → cond b (ahead_by at a) None ≡ None → length s ≤ at
   ends_by false a t e = ltb-false at (length s) t
   ends_by true (whole k) t e = absurd (let z : ◌≡◌ {A = ℕ} 0 1 = cc in omega arith)
   ends_by true (fault f) t e = absurd (let z : ◌≡◌ {A = ℕ} 0 1 = cc in omega arith)
 
-  pub at_end : ahead_of cap s at ≡ N.End → length s ≤ at
+  pub at_end : ahead_of cap s at ≡ None → length s ≤ at
   unfolding ahead_of
   at_end e = ends_by (ltb at (length s)) (stands_at cap (drop at s)) refl e
 
-  pub ends_here : ahead_of cap s at ≡ N.End → read_from cap 0 (drop at s) ≡ record { recs = []; stop = none }
+  pub ends_here : ahead_of cap s at ≡ None → read_from cap 0 (drop at s) ≡ record { recs = []; stop = None }
   ends_here e = read_end cap (drop at s) (omega (arith, length-drop at s, at_end e))
 
 -- a step that found no record, whichever way: as `let .. else` leaves it
 abbrev pub NoRecord : Ahead → Type 0
-NoRecord x = OneOf (1 ∷ 2 ∷ []) (tag_of ahead.the_type x)
-
-pub no_record : (at : ℕ) (r : Rec) → NoRecord (N.Record (record_at at r)) → ⊥
-no_record at r (inl z) = let y : ◌≡◌ {A = ℕ} 0 1 = z in omega arith
-no_record at r (inr z) = let y : ◌≡◌ {A = ℕ} 0 2 = z in omega arith
+NoRecord x = (r : Record) → x ≡ Some (Ok r) → ⊥
 
 -- and as an arm for the rest tells it
-pub not_record : (x : Ahead) → ((r : Record) → x ≡ N.Record r → ⊥) → NoRecord x
-not_record (N.Record r) n = absurd (n r refl)
-not_record (N.Refused f) n = inl refl
-not_record N.End n = inr refl
+pub not_record : (x : Ahead) → ((r : Record) → x ≡ Some (Ok r) → ⊥) → NoRecord x
+not_record x n = n
 
 pub none_here : (s : List ℕ) (at cap : ℕ) (x : Ahead) → x ≡ ahead_of cap s at → NoRecord x → (read_from cap 0 (drop at s)).recs ≡ []
-none_here s at cap (N.Record r) e (inl z) = absurd (let y : ◌≡◌ {A = ℕ} 0 1 = z in omega arith)
-none_here s at cap (N.Record r) e (inr z) = absurd (let y : ◌≡◌ {A = ℕ} 0 2 = z in omega arith)
-none_here s at cap (N.Refused f) e n = ap (λ (y : Read). y.recs) (stops_here s at cap f (sym e)).reads
-none_here s at cap N.End e n = ap (λ (y : Read). y.recs) (ends_here s at cap (sym e))
+none_here s at cap (Some (Ok r)) e n = absurd (n r refl)
+none_here s at cap (Some (Err f)) e n = ap (λ (y : Read). y.recs) (stops_here s at cap f (sym e)).reads
+none_here s at cap None e n = ap (λ (y : Read). y.recs) (ends_here s at cap (sym e))

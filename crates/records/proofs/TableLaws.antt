@@ -1,4 +1,6 @@
 -- The second pass: entering the table into five lists, column by column; and the promise of a read. Assumes nothing.
+use Rattle.std.specs.Prelude.{Err, None, Ok, Some}
+use Rattle.records.specs.Answers.{Answer}
 use Prim.Native.Nat.{ℕ, suc, ◌+◌, ◌-◌, ◌*◌, ◌≤◌, ◌<◌}
 use native.Mathlib.Omega.{arith}
 use native.Mathlib.Nat.{zero-add, sub-zero}
@@ -7,17 +9,19 @@ use mathlib.Core.Path.{◌≡◌, refl, sym, ap, ◌∙◌}
 use mathlib.Core.List.{List, [], ◌∷◌, map}
 use lib.ListN.{length, take, drop, set, length-set, length-map, length-take}
 use lib.Seq.{sets, sets-eq, take_all, take-nil}
-use borrow.Author.Tests.{lt-ltb, le-ltb}
+use borrow.Author.Tests.{le-ltb}
 use Rattle.records.specs.Records.{Rec, limit, lead_of, size}
 use Rattle.records.specs.Parents.{parent_index}
-use Rattle.records.specs.Reading.{onto, read_from, read_all}
+use Rattle.records.specs.Reading.{onto, read_from, read_all, offset}
 use Rattle.records.specs.Table.{read_answer, entered, tag_of, level_of, length_of, places_from, parents_from, written, Lists, lists, tabled, room_in, fitting}
-use Rattle.records.specs.Climbing.{Held, Behind}
+use Rattle.records.specs.Climbing.{Held, Behind, ParentBehind}
+use Rattle.records.specs.Steps.{at_place, steps_over}
 use Rattle.records.specs.Promise.{Promised}
 use Rattle.records.specs.declared.header.Record.{Record}
+use Rattle.records.specs.declared.walk.Records.{Records}
+use Rattle.numbers.specs.Little.{Bytes}
+use Rattle.records.proofs.StepLaws.{stepped, none_stopped, none_ended}
 use Rattle.records.specs.declared.fault.Refusal.{Refusal}
-use Rattle.records.specs.declared.fault.Answer.{Answer}
-use Rattle.records.specs.declared.fault.Answer.TheVariants as A
 use Rattle.records.proofs.ReadingLaws.{Here}
 use Rattle.records.proofs.ScanLaws.{accepted}
 use Rattle.records.proofs.ClimbLaws.{length-parents_from, index_low, held_next}
@@ -124,116 +128,120 @@ module _ (all : List Rec) (k₀ : Lists) where
       (left_end _ _ _ _ (omega (arith, length-map all length_of)) e.in_lengths)
       (left_end _ _ _ _ (omega (arith, length-parents_from [] all)) e.in_parents)
 
--- ---- over the stream: the records that have room
+-- ---- over the stream: the records that have room. `p` is what is left of the stream at the loop's head
 
-pub record Passing (s : List ℕ) (k₀ k : Lists) (at cap i : ℕ) : Type 0 where
+pub record Passing (s : List ℕ) (k₀ k : Lists) (p : Records) (room i : ℕ) : Type 0 where
+  pub room_is : room ≡ room_in k₀
+  pub stream_is : p.stream.now ≡ s
   pub small : length s ≤ limit
-  pub inside : at ≤ length s
-  pub low : 4 * i ≤ at
+  pub inside : p.at.0 ≤ length s
+  pub low : 4 * i ≤ p.at.0
   pub earlier : List Rec
-  pub entering : Entering (take (room_in k₀) (read_all s).recs) (take (room_in k₀ - i) (read_from cap 0 (drop at s)).recs) earlier at i k₀ k
+  pub entering : Entering (take (room_in k₀) (read_all s).recs) (take (room_in k₀ - i) (read_from p.cap 0 (drop p.at.0 s)).recs) earlier p.at.0 i k₀ k
 
-module _ (s : List ℕ) (k₀ : Lists) where
-  abbrev all : List Rec
-  all = take (room_in k₀) (read_all s).recs
+-- at a record r that has room: what may be stored of it at index j, and the loop's head behind it
+pub record Entry (s : List ℕ) (k₀ k : Lists) (r : Record) (q : Records) (room next j : ℕ) : Type 0 where
+  pub place_small : r.body.0 < 4294967296
+  pub length_small : r.len < 4294967296
+  pub parent_small : {n : ℕ} → ParentBehind k.levels k.parents j r.level n → n < 4294967296
+  pub onward : {n : ℕ} → ParentBehind k.levels k.parents j r.level n → Passing s k₀ (lined j r.tag r.level r.body.0 r.len n k) q room next
 
-  roomy : length all ≤ room_in k₀
-  roomy = omega (arith, length-take (room_in k₀) (read_all s).recs)
+abbrev all : List ℕ → Lists → List Rec
+all s k₀ = take (room_in k₀) (read_all s).recs
 
-  pub pass_start : length s ≤ limit → Passing s k₀ k₀ 0 0 0
+roomy : (s : List ℕ) (k₀ : Lists) → length (all s k₀) ≤ room_in k₀
+roomy s k₀ = omega (arith, length-take (room_in k₀) (read_all s).recs)
+
+module _ {s : List ℕ} {k₀ : Lists} where
+  pub pass_start : {room : ℕ} {p : Records} → room ≡ room_in k₀ → (p.stream.now ≡ s) × (p.at ≡ offset 0) × (p.cap ≡ 0) → length s ≤ limit → Passing s k₀ k₀ p room 0
   unfolding read_all
-  pass_start h = record { small = h; inside = omega arith; low = omega arith; earlier = []; entering = simp sub-zero (enter_start all k₀ roomy) }
+  pass_start {room} {p} e f h =
+      rw (f.1, f.2)
+      (record { room_is = e; stream_is = f.0; small = h; inside = omega arith; low = omega arith; earlier = []; entering = simp sub-zero (enter_start (all s k₀) k₀ (roomy s k₀)) })
 
-  module _ (k : Lists) (at cap i : ℕ) (w : Passing s k₀ k at cap i) where
-    module _ (h : i < room_in k₀) (r : Record) (d : Here s at cap r) where
+  module _ {k : Lists} {p : Records} {room i : ℕ} (w : Passing s k₀ k p room i) where
+    module _ (h : i < room) {r : Record} (d : Here s p.at.0 p.cap r) where
       abbrev rest : List Rec
-      rest = take (room_in k₀ - (i + 1)) (read_from (d.rec.level + 1) 0 (drop (at + size d.rec) s)).recs
+      rest = take (room_in k₀ - (i + 1)) (read_from (d.rec.level + 1) 0 (drop (p.at.0 + size d.rec) s)).recs
 
       -- at a record the lists are those of the next one and the rest
-      at_record : Entering all (d.rec ∷ rest) w.earlier at i k₀ k
+      at_record : Entering (all s k₀) (d.rec ∷ rest) w.earlier p.at.0 i k₀ k
       unfolding onto
-      at_record = let e : room_in k₀ - i ≡ suc (room_in k₀ - (i + 1)) = omega arith in rw (d.next, e) at w.entering
+      at_record = let e : room_in k₀ - i ≡ suc (room_in k₀ - (i + 1)) = omega (arith, w.room_is) in rw (d.next, e) at w.entering
 
-      pub pass_room : Room i k
-      pass_room = enter_room all k₀ d.rec rest w.earlier at i k at_record
-
-      -- the records before it, as the lists hold them
-      abbrev pub pass_behind : Behind k.levels k.parents i
-      pass_behind =
+      behind_it : {q : Records} {n : ℕ} → q.stream.now ≡ s → q.at.0 ≡ r.next.0 → q.cap ≡ r.level + 1 → n ≡ parent_index r.level w.earlier
+          → Passing s k₀ (lined i r.tag r.level r.body.0 r.len n k) q room (i + 1)
+      behind_it e a c f =
           record {
-            earlier = w.earlier;
-            count = w.entering.count;
-            held = w.entering.held;
-            in_levels = omega (arith, pass_room.levels_room);
-            in_parents = omega (arith, pass_room.parents_room);
-          }
-
-      pub parent_small : (level : ℕ) → parent_index level w.earlier < 4294967296
-      parent_small level = omega (arith, index_low level w.earlier, w.entering.count, w.low, w.inside, w.small)
-
-      pub pass_next : (parent : ℕ) → parent ≡ parent_index r.level w.earlier
-          → Passing s k₀ (lined i r.tag r.level r.body.0 r.len parent k) r.next.0 (r.level + 1) (i + 1)
-      pass_next parent q =
-          record {
+            room_is = w.room_is;
+            stream_is = e;
             small = w.small;
-            inside = omega (arith, d.next-is, d.inside);
-            low = omega (arith, w.low, d.next-is, d.size_low);
+            inside = omega (arith, a, d.next-is, d.inside);
+            low = omega (arith, w.low, a, d.next-is, d.size_low);
             earlier = d.rec ∷ w.earlier;
             entering =
-                rw (q, d.next-is, d.tag_is, d.level_is, d.body_is, d.length-is)
-                (enter_next all k₀ d.rec rest w.earlier at i k at_record);
+                rw (f, a, c, d.next-is, d.tag_is, d.level_is, d.body_is, d.length-is)
+                (enter_next (all s k₀) k₀ d.rec rest w.earlier p.at.0 i k at_record);
           }
 
+      there : Room i k
+      there = enter_room (all s k₀) k₀ d.rec rest w.earlier p.at.0 i k at_record
+
+    -- the loop's step: index j and a record
+    pub pass_at : {room' next j : ℕ} {r : Record} {q : Records} → Bytes s
+        → ((room' ≡ room) × ((0 < room - i) × (j ≡ i) × (next ≡ i + 1))) × steps_over p (Some (Ok r)) q → Entry s k₀ k r q room' next j
+    pass_at {room'} {next} {j} {r} {q} bs g =
+        let h : i < room = omega (arith, g.0.1.0) in
+        let x = stepped p w.stream_is bs g.1 in
+        let d = x.here in
+        let m = there h d in
+        let b : Behind k.levels k.parents i =
+        record {
+          earlier = w.earlier;
+          count = w.entering.count;
+          held = w.entering.held;
+          in_levels = omega (arith, m.levels_room);
+          in_parents = omega (arith, m.parents_room);
+        } in
+        rw (g.0.0, g.0.1.1, g.0.1.2)
+        (record {
+          place_small = omega (arith, d.body_end, d.next-is, d.inside, w.small);
+          length_small = omega (arith, d.body_end, d.next-is, d.inside, w.small);
+          parent_small = λ e. omega (arith, e b, index_low r.level w.earlier, w.entering.count, w.low, w.inside, w.small);
+          onward = λ e. behind_it h d x.stream-is x.at-is x.cap-is (e b);
+        })
+
   -- where no record is left, or none has room, the table is entered
-  module _ (t l p n q : List ℕ) (at cap i : ℕ) (w : Passing s k₀ (lists t l p n q) at cap i) where
-    entered_all : take (room_in k₀ - i) (read_from cap 0 (drop at s)).recs ≡ [] → lists t l p n q ≡ tabled all k₀
-    entered_all e = enter_end all k₀ w.earlier at i t l p n q roomy (rw e at w.entering)
+  module _ {t l p n q : List ℕ} {u : Records} {room i : ℕ} (w : Passing s k₀ (lists t l p n q) u room i) where
+    entered_all : take (room_in k₀ - i) (read_from u.cap 0 (drop u.at.0 s)).recs ≡ [] → lists t l p n q ≡ tabled (all s k₀) k₀
+    entered_all e = enter_end (all s k₀) k₀ w.earlier u.at.0 i t l p n q (roomy s k₀) (rw e at w.entering)
 
-    pub pass_end : (read_from cap 0 (drop at s)).recs ≡ [] → lists t l p n q ≡ tabled all k₀
-    pass_end e = entered_all (ap (take (room_in k₀ - i)) e ∙ take-nil (room_in k₀ - i))
+    no_more : (read_from u.cap 0 (drop u.at.0 s)).recs ≡ [] → lists t l p n q ≡ tabled (all s k₀) k₀
+    no_more e = entered_all (ap (take (room_in k₀ - i)) e ∙ take-nil (room_in k₀ - i))
 
-    pub pass_full : room_in k₀ ≤ i → lists t l p n q ≡ tabled all k₀
-    pass_full h = entered_all (let e : room_in k₀ - i ≡ 0 = omega arith in ap (λ (m : ℕ). take m (read_from cap 0 (drop at s)).recs) e)
+    pub pass_stop : {f : Refusal} {v : Records} → steps_over u (Some (Err f)) v → lists t l p n q ≡ tabled (all s k₀) k₀
+    pass_stop g = no_more (none_stopped u w.stream_is g)
 
--- ---- what an answer enters
+    pub pass_end : at_place u ≡ None → lists t l p n q ≡ tabled (all s k₀) k₀
+    pass_end g = no_more (none_ended u w.stream_is g)
 
-module _ (s : List ℕ) (a : Answer) (k : Lists) where
-  abbrev after : Lists
-  after = tabled (entered a (fitting s (room_in k))) k
-
-  nothing : entered a (fitting s (room_in k)) ≡ [] → lists k.tags k.levels k.places k.lengths k.parents ≡ after
-  unfolding places_from parents_from
-  nothing e = sym (ap (λ (rs : List Rec). tabled rs k) e)
-
-  none_either : (b : Answer) → entered b [] ≡ []
-  none_either (A.Accepted n) = refl
-  none_either (A.Refused r) = refl
-
-  pub enter_long : limit < length s → lists k.tags k.levels k.places k.lengths k.parents ≡ after
-  unfolding fitting
-  enter_long h = nothing (simp (lt-ltb limit (length s) h) (none_either a))
-
-  pub enter_refused : (r : Refusal) → a ≡ A.Refused r → lists k.tags k.levels k.places k.lengths k.parents ≡ after
-  enter_refused r e = nothing (ap (λ (b : Answer). entered b (fitting s (room_in k))) e)
-
-  pub enter_accepted : (k' : Lists) (n : ℕ) → a ≡ A.Accepted n → length s ≤ limit → k' ≡ tabled (take (room_in k) (read_all s).recs) k → k' ≡ after
-  unfolding fitting
-  enter_accepted k' n e h q = rw e (simp (le-ltb limit (length s) h) q)
+    pub pass_full : room ≤ i → lists t l p n q ≡ tabled (all s k₀) k₀
+    pass_full h = entered_all (let e : room_in k₀ - i ≡ 0 = omega (arith, w.room_is) in ap (λ (m : ℕ). take m (read_from u.cap 0 (drop u.at.0 s)).recs) e)
 
 -- ---- the promise of a read
 
 -- all records of a stream that read accepts have room
-pub fitting_all : (s : List ℕ) (room n : ℕ) → read_answer s room ≡ A.Accepted n → fitting s room ≡ (read_all s).recs
+pub fitting_all : (s : List ℕ) (room n : ℕ) → read_answer s room ≡ Ok n → fitting s room ≡ (read_all s).recs
 unfolding fitting
 fitting_all s room n e =
     let k = accepted s room n e in
     simp (le-ltb limit (length s) k.small, take_all room (read_all s).recs k.fits)
 
 -- of a read that accepts nothing but what read accepts, the table of its answer is what it promises
-module _ (answers : List ℕ → ℕ → Answer) (s : List ℕ) (k : Lists) (stricter : (n : ℕ) → answers s (room_in k) ≡ A.Accepted n → read_answer s (room_in k) ≡ A.Accepted n) where
+module _ (answers : List ℕ → ℕ → Answer) (s : List ℕ) (k : Lists) (stricter : (n : ℕ) → answers s (room_in k) ≡ Ok n → read_answer s (room_in k) ≡ Ok n) where
   all_entered : (a : Answer) → a ≡ answers s (room_in k) → entered a (fitting s (room_in k)) ≡ entered a (read_all s).recs
-  all_entered (A.Accepted n) e = fitting_all s (room_in k) n (stricter n (sym e))
-  all_entered (A.Refused r) e = refl
+  all_entered (Ok n) e = fitting_all s (room_in k) n (stricter n (sym e))
+  all_entered (Err r) e = refl
 
   pub promised : (a : Answer) (k' : Lists) → a ≡ answers s (room_in k) → k' ≡ tabled (entered a (fitting s (room_in k))) k → Promised answers s k a k'
   promised a k' e q = record { answer = e; table = q ∙ ap (λ (rs : List Rec). tabled rs k) (all_entered a e) }

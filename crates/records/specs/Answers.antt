@@ -1,10 +1,8 @@
 -- The numbers the host sees (document 01, the table of numbers): one name for each, and its number.
-use Rattle.std.specs.Prelude.{ℕ, ◌+◌, ◌*◌, min}
+use Rattle.std.specs.Prelude.{ℕ, ◌+◌, ◌*◌, min, Result, Err, Ok}
 use Rattle.records.specs.declared.fault.Fault.{Fault}
 use Rattle.records.specs.declared.fault.Fault.TheVariants as F
 use Rattle.records.specs.declared.fault.Refusal.{Refusal}
-use Rattle.records.specs.declared.fault.Answer.{Answer}
-use Rattle.records.specs.declared.fault.Answer.TheVariants as A
 
 -- document 01's number of a fault
 abbrev pub number_of : Fault → ℕ
@@ -44,19 +42,30 @@ refusal f p = record { fault = f; place = record { 0 = p } }
 abbrev pub further : ℕ → Refusal → Refusal
 further at r = refusal r.fault (at + r.place.0)
 
+-- what a call over one stream answers: how much it found or wrote, or the refusal
+abbrev pub Answer : Type 0
+Answer = Result ℕ Refusal
+
 -- the refusal of a fault at a byte place
 abbrev pub refused_at : Fault → ℕ → Answer
-refused_at f p = A.Refused (refusal f p)
+refused_at f p = Err (refusal f p)
 
--- document 01's number of an answer, 0 where it is accepted
-abbrev pub number : Answer → ℕ
-number (A.Accepted n) = 0
-number (A.Refused r) = number_of r.fault
+-- the number of an answer, 0 where it is accepted, by that of a reason to refuse
+abbrev pub number_by : {E : Type 0} → (E → ℕ) → Result ℕ E → ℕ
+number_by number_is (Ok n) = 0
+number_by number_is (Err e) = number_is e
 
 -- the place that goes with it, or what stands in its column for 0
+abbrev pub place_by : {E : Type 0} → (E → ℕ) → Result ℕ E → ℕ
+place_by place_is (Ok n) = n
+place_by place_is (Err e) = place_is e
+
+-- document 01's number of an answer, and the place or what stands in its column
+abbrev pub number : Answer → ℕ
+number a = number_by (λ (r : Refusal). number_of r.fault) a
+
 abbrev pub place : Answer → ℕ
-place (A.Accepted n) = n
-place (A.Refused r) = r.place.0
+place a = place_by (λ (r : Refusal). r.place.0) a
 
 -- the host's 64 bits: the number, plus 256 times the place, plus 2 to the power 36 times the further number (document 01, 'What the part does')
 unfoldable pub host_form : ℕ → ℕ → ℕ → ℕ

@@ -7,3 +7,5 @@ pub mod Stopping
 pub mod Table
 pub mod Climbing
 pub mod Promise
+pub mod Steps
+pub mod Columns

@@ -1,10 +1,10 @@
 -- What a read promises, and that it leaves no choice: two outcomes that it allows are equal. Read, the section read and the DocInfo read
 -- promise the same of their lists, each by its own answer. Assumes nothing.
+use Rattle.records.specs.Answers.{Answer}
 use Rattle.std.specs.Prelude.{◌≡◌, List, ℕ}
 use Rattle.std.proofs.Common.{sym, ap, ◌∙◌}
 use Rattle.records.specs.Reading.{read_all}
 use Rattle.records.specs.Table.{Lists, room_in, entered, tabled}
-use Rattle.records.specs.declared.fault.Answer.{Answer}
 
 -- a read of the stream s over the lists k, which `answers` by the stream and the room
 module _ (answers : List ℕ → ℕ → Answer) (s : List ℕ) (k : Lists) where

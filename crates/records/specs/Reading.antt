@@ -1,6 +1,5 @@
 -- Reading a stream record by record: what stands at its front, and the records up to the first fault (document 01, 'Records' and 'Order').
-use Rattle.std.specs.Prelude.{ℕ, zero, suc, ◌+◌, ◌-◌, ◌/◌, ◌%◌, Bool, true, false, cond, List, [], ◌∷◌, ltb, eqb, length, take, drop}
-use Rattle.std.proofs.Math.Option.{Option, none, some}
+use Rattle.std.specs.Prelude.{ℕ, zero, suc, ◌+◌, ◌-◌, ◌/◌, ◌%◌, Bool, true, false, cond, List, [], ◌∷◌, ltb, eqb, length, take, drop, Result, Err, None, Ok, Option, Some}
 use Rattle.numbers.specs.Little.{little}
 use Rattle.records.specs.Records.{Rec, lead_of, size}
 use Rattle.records.specs.Answers.{refusal, further}
@@ -8,11 +7,8 @@ use Rattle.records.specs.declared.fault.Fault.{Fault}
 use Rattle.records.specs.declared.fault.Fault.TheVariants as F
 use Rattle.records.specs.declared.fault.Offset.{Offset}
 use Rattle.records.specs.declared.fault.Refusal.{Refusal}
-use Rattle.records.specs.declared.header.Front.{Front}
-use Rattle.records.specs.declared.header.Front.TheVariants as H
+use Rattle.records.specs.declared.header.Header.{Header}
 use Rattle.records.specs.declared.header.Record.{Record}
-use Rattle.records.specs.declared.header.Ahead.{Ahead}
-use Rattle.records.specs.declared.header.Ahead.TheVariants as N
 
 -- what stands at the front of a stream: a record, or a fault and where, counted from the front
 pub data Stands : Type 0 where
@@ -47,11 +43,15 @@ word_at cap s w =
 unfoldable pub stands_at : ℕ → List ℕ → Stands
 stands_at cap s = guard (ltb (length s) 4) F.HeaderCut (length s) (word_at cap s (little 4 s))
 
+-- a header's numbers, or a refusal
+abbrev pub Front : Type 0
+Front = Result Header Refusal
+
 -- the same as a header's numbers
 abbrev pub front_of : Stands → Front
 front_of (whole r) =
-    H.Record (record { tag = r.tag; level = r.level; lead = lead_of (length r.body); len = length r.body })
-front_of (fault f) = H.Refused f
+    Ok (record { tag = r.tag; level = r.level; lead = lead_of (length r.body); len = length r.body })
+front_of (fault f) = Err f
 
 -- a byte place
 abbrev pub offset : ℕ → Offset
@@ -69,14 +69,18 @@ record_at at r =
       next = offset (at + size r);
     }
 
+-- a record, or a refusal; or nothing, at the end
+abbrev pub Ahead : Type 0
+Ahead = Option (Result Record Refusal)
+
 -- what stands at a place
 abbrev pub ahead_by : ℕ → Stands → Ahead
-ahead_by at (whole r) = N.Record (record_at at r)
-ahead_by at (fault f) = N.Refused (further at f)
+ahead_by at (whole r) = Some (Ok (record_at at r))
+ahead_by at (fault f) = Some (Err (further at f))
 
 -- the same of a stream that may end there
 unfoldable pub ahead_of : ℕ → List ℕ → ℕ → Ahead
-ahead_of cap s at = cond (ltb at (length s)) (ahead_by at (stands_at cap (drop at s))) N.End
+ahead_of cap s at = cond (ltb at (length s)) (ahead_by at (stands_at cap (drop at s))) None
 
 -- the records before the first fault, and the fault if there is one, with its place counted from behind those records
 pub record Read : Type 0 where
@@ -90,11 +94,11 @@ onto r x = record { recs = r ∷ x.recs; stop = x.stop }
 -- followed here: of the encoding of lawful records it reads those records, and what it reads without a fault is such an encoding
 -- (`stream_records`, `accepted_stream` and `stream_accepted` in proofs/Reader.antt)
 unfoldable pub read_from : ℕ → ℕ → List ℕ → Read
-read_from cap k [] = record { recs = []; stop = none }
+read_from cap k [] = record { recs = []; stop = None }
 read_from cap (suc k) (x ∷ s) = read_from cap k s
 read_from cap zero (x ∷ s) =
     elim (stands_at cap (x ∷ s)) [
-      | fault f ↦ record { recs = []; stop = some f }
+      | fault f ↦ record { recs = []; stop = Some f }
       | whole r ↦ onto r (read_from (r.level + 1) (size r - 1) s)
     ]
 

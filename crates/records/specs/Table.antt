@@ -1,23 +1,20 @@
 -- What read answers, and the table it writes (document 01, 'Read writes ..' and 'Order'; document 02, A6).
-use Rattle.std.specs.Prelude.{ℕ, ◌+◌, min, ◌≡◌, cond, List, [], ◌∷◌, ◌++◌, map, ltb, leb, length, take, drop}
-use Rattle.std.proofs.Math.Option.{Option, none, some}
+use Rattle.std.specs.Prelude.{ℕ, ◌+◌, min, ◌≡◌, cond, List, [], ◌∷◌, ◌++◌, map, ltb, leb, length, take, drop, Err, None, Ok, Option, Some}
 use Rattle.records.specs.Records.{Rec, limit, encode, lead_of, size}
 use Rattle.records.specs.Parents.{Parent, parent_index}
-use Rattle.records.specs.Answers.{further, refused_at}
+use Rattle.records.specs.Answers.{further, refused_at, Answer}
 use Rattle.records.specs.Reading.{Read, read_all}
 use Rattle.records.specs.declared.fault.Fault.TheVariants as F
 use Rattle.records.specs.declared.fault.Refusal.{Refusal}
-use Rattle.records.specs.declared.fault.Answer.{Answer}
-use Rattle.records.specs.declared.fault.Answer.TheVariants as A
 
 -- how many records there are, or 7 at the first that does not fit
 unfoldable pub room_for : ℕ → List Rec → Answer
-room_for room rs = cond (leb (length rs) room) (A.Accepted (length rs)) (refused_at F.NoRoom (length (encode (take room rs))))
+room_for room rs = cond (leb (length rs) room) (Ok (length rs)) (refused_at F.NoRoom (length (encode (take room rs))))
 
 -- the fault that stopped the reading behind p bytes, and else the answer a
 unfoldable pub stopped : Option Refusal → ℕ → Answer → Answer
-stopped none p a = a
-stopped (some f) p a = A.Refused (further p f)
+stopped None p a = a
+stopped (Some f) p a = Err (further p f)
 
 -- the fault that stopped the reading, behind the records, and else the answer of the room
 unfoldable pub answer_of : ℕ → Read → Answer
@@ -29,18 +26,18 @@ read_answer s room = cond (ltb limit (length s)) (refused_at F.StreamTooLong 0) 
 
 -- accepted with n where nothing is at fault
 abbrev pub settled : ℕ → Option Refusal → Answer
-settled n none = A.Accepted n
-settled n (some r) = A.Refused r
+settled n None = Ok n
+settled n (Some r) = Err r
 
 -- read's answer, then what is at fault with the records beyond that: the section read and the DocInfo read
 abbrev pub after_read : Answer → Option Refusal → Answer
-after_read (A.Accepted n) fault = settled n fault
-after_read (A.Refused r) fault = A.Refused r
+after_read (Ok n) fault = settled n fault
+after_read (Err r) fault = Err r
 
 -- the records that an answer enters into the table: a refusal enters none
 abbrev pub entered : Answer → List Rec → List Rec
-entered (A.Accepted n) rs = rs
-entered (A.Refused r) rs = []
+entered (Ok n) rs = rs
+entered (Err r) rs = []
 
 -- the five columns: tag, level, body place (the first record's header stands at `at`), body length, and the parent's index (the first record
 -- stands behind the records `earlier`, the nearest first)

@@ -1,41 +1,41 @@
 // The refusals of document 01, each named once, and what a call answers.
-ghost use Rattle.std.specs.Prelude.{◌≡◌, ◌<◌};
-ghost use Rattle.records.specs.Answers.{number_of, refused_at, place_bits, host_form, number, place};
+ghost use Rattle.std.specs.Prelude.{◌≡◌, ◌<◌, ℕ, Err};
+ghost use Rattle.records.specs.Answers.{number_of, refusal, place_bits, host_form, number_by, place_by};
 
 // A byte place in a stream, never added to a character position.
 #[derive(Clone, Copy)]
 pub struct Offset(pub usize);
 
-// Why a call refuses. `number_of` gives document 01's number of each.
+// Why a call refuses, with document 01's number of each.
 #[derive(Clone, Copy)]
 pub enum Fault {
-    StreamTooLong,
-    HeaderCut,
-    LongLengthTooSmall,
-    BodyPastEnd,
-    TagOutside,
-    LevelRule,
-    NoRoom,
-    ParagraphHeaderShort,
-    Misplaced,
-    RecordAbsent,
-    LengthWrong,
-    TextRule,
-    EntriesWrong,
-    ControlsUnmatched,
-    FieldHeaderShort,
-    DocInfoRecord,
-    DocInfoLength,
-    CountUnmatched,
-    ValueWrong,
-    NoField,
-    FieldTwice,
-    FieldNotPlain,
-    MarksInParagraph,
-    SheetTooLong,
-    BufferTooShort,
-    ListTooShort,
-    ParentWrong,
+    StreamTooLong = 1,
+    HeaderCut = 2,
+    LongLengthTooSmall = 3,
+    BodyPastEnd = 4,
+    TagOutside = 5,
+    LevelRule = 6,
+    NoRoom = 7,
+    ParagraphHeaderShort = 8,
+    Misplaced = 9,
+    RecordAbsent = 10,
+    LengthWrong = 11,
+    TextRule = 12,
+    EntriesWrong = 13,
+    ControlsUnmatched = 14,
+    FieldHeaderShort = 15,
+    DocInfoRecord = 16,
+    DocInfoLength = 17,
+    CountUnmatched = 18,
+    ValueWrong = 20,
+    NoField = 21,
+    FieldTwice = 22,
+    FieldNotPlain = 23,
+    MarksInParagraph = 24,
+    SheetTooLong = 25,
+    BufferTooShort = 26,
+    ListTooShort = 27,
+    ParentWrong = 28,
 }
 
 // A fault, and the place that document 01 gives with it.
@@ -46,54 +46,22 @@ pub struct Refusal {
 }
 
 // What a call over one stream answers: how much it found or wrote, or the refusal.
-#[derive(Clone, Copy)]
-pub enum Answer {
-    Accepted(usize),
-    Refused(Refusal),
-}
+pub type Answer = Result<usize, Refusal>;
 
 impl Fault {
     // Document 01's number.
     pub fn number(self) -> u64
         ensures { (result ≡ number_of self) × (result < 256) }
     {
-        match self {
-            Fault::StreamTooLong => 1,
-            Fault::HeaderCut => 2,
-            Fault::LongLengthTooSmall => 3,
-            Fault::BodyPastEnd => 4,
-            Fault::TagOutside => 5,
-            Fault::LevelRule => 6,
-            Fault::NoRoom => 7,
-            Fault::ParagraphHeaderShort => 8,
-            Fault::Misplaced => 9,
-            Fault::RecordAbsent => 10,
-            Fault::LengthWrong => 11,
-            Fault::TextRule => 12,
-            Fault::EntriesWrong => 13,
-            Fault::ControlsUnmatched => 14,
-            Fault::FieldHeaderShort => 15,
-            Fault::DocInfoRecord => 16,
-            Fault::DocInfoLength => 17,
-            Fault::CountUnmatched => 18,
-            Fault::ValueWrong => 20,
-            Fault::NoField => 21,
-            Fault::FieldTwice => 22,
-            Fault::FieldNotPlain => 23,
-            Fault::MarksInParagraph => 24,
-            Fault::SheetTooLong => 25,
-            Fault::BufferTooShort => 26,
-            Fault::ListTooShort => 27,
-            Fault::ParentWrong => 28,
-        }
+        self as u64
     }
 }
 
-// The refusal of a fault at a byte place.
-pub fn refused(fault: Fault, place: Offset) -> Answer
-    ensures { result ≡ refused_at fault place.0 }
+// The refusal of a fault at a byte place, whatever would be found without it.
+pub fn refused<T>(fault: Fault, place: Offset) -> Result<T, Refusal>
+    ensures { result ≡ Err (refusal fault place.0) }
 {
-    Answer::Refused(Refusal { fault, place })
+    Err(Refusal { fault, place })
 }
 
 // A place has 28 bits in the host's number. One that needs more is given as the largest, so that every number is taken; of a stream
@@ -101,25 +69,43 @@ pub fn refused(fault: Fault, place: Offset) -> Answer
 pub fn bits(place: usize) -> u64
     ensures { (result ≡ place_bits place) × (result < 268435456) }
 {
-    if 268435455 < place {
-        268435455
-    } else {
-        place as u64
+    place.min(268435455) as u64
+}
+
+// Why a call refuses, as the host is told it: document 01's number, and the place that goes with it.
+pub trait Reason {
+    ghost number_is: { Self → ℕ };
+
+    ghost place_is: { Self → ℕ };
+
+    fn number(&self) -> u64
+        ensures { (result ≡ number_is self.now) × (result < 256) };
+
+    fn place(&self) -> usize
+        ensures { result ≡ place_is self.now };
+}
+
+impl Reason for Refusal {
+    ghost number_is = { λ r. number_of r.fault };
+
+    ghost place_is = { λ r. r.place.0 };
+
+    fn number(&self) -> u64 {
+        self.fault.number()
+    }
+
+    fn place(&self) -> usize {
+        self.place.0
     }
 }
 
-impl Answer {
-    // The host's form: the number, plus 256 times the place or what stands in its column for 0.
-    pub fn host(self) -> u64
-        ensures { result ≡ host_form (number self) (place_bits (place self)) 0 }
-    {
-        match self {
-            Answer::Accepted(n) => 256 * bits(n),
-            Answer::Refused(r) => {
-                let fault = r.fault;
-                let place = r.place;
-                fault.number() + 256 * bits(place.0)
-            }
-        }
+// The host's form of an answer: the number, plus 256 times the place or what stands in its column for 0.
+#[tactic(auto, unfolding(crate::specs::Answers::host_form))]
+pub fn host<E: Reason + Drop>(answer: Result<usize, E>) -> u64
+    ensures { result ≡ host_form (number_by E.number_is answer) (place_bits (place_by E.place_is answer)) 0 }
+{
+    match answer {
+        Ok(n) => 256 * bits(n),
+        Err(reason) => reason.number() + 256 * bits(reason.place()),
     }
 }

@@ -15,6 +15,7 @@ pub enum Kind {
     Other,
 }
 
+// A tag itself stays a number, with these for names (document 01's form): a stream has any from 16 to 1023.
 impl Kind {
     pub const PARAGRAPH_HEADER: u32 = 66;
 
@@ -32,6 +33,7 @@ impl Kind {
 
     pub const CONTROL_DATA: u32 = 87;
 
+    #[tactic(auto, unfolding(crate::specs::Kinds::kind_of))]
     pub fn of(tag: u32) -> Kind
         ensures { result ≡ kind_of tag }
     {

@@ -6,9 +6,11 @@ mod header;
 mod kind;
 mod parents;
 mod table;
+mod walk;
 
-pub use fault::{Answer, Fault, Offset, Refusal, bits, refused};
-pub use header::{Ahead, Record, record_at};
+pub use fault::{Answer, Fault, Offset, Reason, Refusal, bits, host, refused};
+pub use header::{Record, record_at};
 pub use kind::Kind;
 pub use parents::right_parents;
-pub use table::{enter, room, scan};
+pub use table::{Columns, LIMIT, enter, room, scan};
+pub use walk::{Records, records_of};

@@ -3,7 +3,7 @@
 ghost use Rattle.std.specs.Prelude.{take};
 ghost use Rattle.records.specs.Climbing.{Behind, ParentBehind, RightParents};
 
-use numbers::{lesser, wide};
+use numbers::wide;
 
 // The index of the parent of a record at `level` that stands at `index`: from the record before it upwards, the first of smaller level.
 // Where there is none it is the record's own.
@@ -15,6 +15,7 @@ pub fn parent_at(levels: &[u32], parents: &[u32], index: usize, level: u32) -> u
         return 0;
     }
     let mut at = index - 1;
+    // No `for`: it climbs by the entries.
     while level <= levels[at] {
         let up = wide(parents[at]);
         if up == at {
@@ -29,14 +30,11 @@ pub fn parent_at(levels: &[u32], parents: &[u32], index: usize, level: u32) -> u
 pub fn right_parents(count: usize, levels: &[u32], parents: &[u32]) -> usize
     ensures { RightParents (take count levels.now) parents.now result }
 {
-    let n = lesser(count, lesser(levels.len(), parents.len()));
-    let mut i: usize = 0;
-    while i < n {
-        let parent = parent_at(levels, parents, i, levels[i]);
-        if wide(parents[i]) != parent {
-            break;
+    let n = count.min(levels.len().min(parents.len()));
+    for i in 0..n {
+        if wide(parents[i]) != parent_at(levels, parents, i, levels[i]) {
+            return i;
         }
-        i = i + 1;
     }
-    i
+    n
 }

@@ -1,13 +1,14 @@
 -- A paragraph with nothing but records 67 to 70 below it has no field. Assumes nothing.
+use Rattle.std.specs.Prelude.{None, Some}
 use Prim.Native.Nat.{ℕ, zero, suc, ◌+◌, ◌-◌, ◌≤◌}
 use native.Mathlib.Omega.{arith}
 use mathlib.Core.Path.{◌≡◌, refl, sym, ap, ◌∙◌}
 use mathlib.Core.Logic.{inl, inr}
-use mathlib.Core.Bool.{Bool, true, false}
+use mathlib.Core.Bool.{Bool, true, false, not}
 use mathlib.Core.List.{List, [], ◌∷◌}
 use lib.Dec.{eqb}
 use lib.ListN.{drop}
-use borrow.Author.Tests.{eq-eqb, ne_eqb}
+use borrow.Author.Tests.{eq-eqb}
 use Rattle.numbers.specs.Little.{Bytes}
 use Rattle.records.specs.Records.{Rec, size}
 use Rattle.records.specs.Reading.{offset}
@@ -17,7 +18,7 @@ use Rattle.text.specs.Asked.{among, class_of, what, width}
 use Rattle.text.specs.Walk.{walk, is_extended, extended_in}
 use Rattle.text.proofs.Cases.{lt_or, eq_or}
 use Rattle.text.proofs.TableLaws.{what-control, what_ordinary}
-use Rattle.paragraph.specs.View.{side, kids, controls}
+use Rattle.paragraph.specs.View.{side, owned_if, kids, controls}
 use Rattle.paragraph.specs.Stream.{records_in}
 use Rattle.paragraph.specs.declared.view.Side.{Side}
 use Rattle.paragraph.specs.declared.view.Side.TheVariants as S
@@ -29,8 +30,7 @@ use Rattle.filling.proofs.FieldLaws.{fields_ordinary, fields_other}
 use Rattle.filling.proofs.SearchLaws.{hits_past}
 use Rattle.filling.proofs.EditLaws.{which, is_beyond, is_owned, is_passed}
 use Rattle.search.specs.Accepted.{Keep}
-use Rattle.search.specs.Steps.{part_by, part_of, bare_in}
-use Rattle.search.specs.declared.passing.Until.TheVariants as U
+use Rattle.search.specs.Steps.{part_of, bare_in}
 
 -- ---- no extended control, no field
 
@@ -58,24 +58,11 @@ no_fields p (suc k) n (u ∷ us) e = no_fields (p + 1) k n us e
 -- ---- one record
 
 module _ (n tag level : ℕ) where
-  pub part_beyond : side n tag level ≡ S.Beyond → S.Beyond ≡ part_of n tag level
+  pub part_is : {x y : Side} → x ≡ side n tag level → y ≡ owned_if (not (eqb tag 71)) x → part_of n tag level ≡ y
   unfolding part_of
-  part_beyond e = rw e
+  part_is e q = sym (q ∙ ap (owned_if (not (eqb tag 71))) e)
 
-  pub part_passed : side n tag level ≡ S.Passed → S.Passed ≡ part_of n tag level
-  unfolding part_of
-  part_passed e = rw e
-
-  pub part_control : side n tag level ≡ S.Owned → tag ≡ 71 → S.Passed ≡ part_of n tag level
-  unfolding part_of
-  part_control e t = rw (e, eq-eqb tag 71 t)
-
-  pub part_owned : side n tag level ≡ S.Owned → (tag ≡ 71 → ⊥) → S.Owned ≡ part_of n tag level
-  unfolding part_of
-  part_owned e t = rw (e, ne_eqb tag 71 t)
-
-  -- and back
-  owned_by_lem : (x : Side) → side n tag level ≡ x → part_by x tag ≡ S.Owned → (side n tag level ≡ S.Owned) × (tag ≡ 71 → ⊥)
+  owned_by_lem : (x : Side) → side n tag level ≡ x → owned_if (not (eqb tag 71)) x ≡ S.Owned → (side n tag level ≡ S.Owned) × (tag ≡ 71 → ⊥)
   owned_by_lem S.Beyond e q = absurd (let z : ◌≡◌ {A = ℕ} 0 1 = cc in omega arith)
   owned_by_lem S.Passed e q = absurd (let z : ◌≡◌ {A = ℕ} 0 1 = cc in omega arith)
   owned_by_lem S.Owned e q = (e, λ t. absurd (let z : S.Passed ≡ S.Owned = rw (eq-eqb tag 71 t) at q in let y : ◌≡◌ {A = ℕ} 0 1 = cc in omega arith))
@@ -84,7 +71,7 @@ module _ (n tag level : ℕ) where
   unfolding part_of
   part_says q = owned_by_lem (side n tag level) refl q
 
-  beyond_by : (x : Side) → side n tag level ≡ x → part_by x tag ≡ S.Beyond → side n tag level ≡ S.Beyond
+  beyond_by : (x : Side) → side n tag level ≡ x → owned_if (not (eqb tag 71)) x ≡ S.Beyond → side n tag level ≡ S.Beyond
   beyond_by S.Beyond e q = e
   beyond_by S.Passed e q = absurd (let z : ◌≡◌ {A = ℕ} 0 1 = cc in omega arith)
   beyond_by S.Owned e q = go (eqb tag 71) refl
@@ -98,7 +85,7 @@ module _ (n tag level : ℕ) where
   beyond_says q = beyond_by (side n tag level) refl q
 
 module _ (n at : ℕ) (r : Rec) (rs : List Rec) where
-  bare_beyond : part_of n r.tag r.level ≡ S.Beyond → bare_in n at (r ∷ rs) ≡ U.End (offset at)
+  bare_beyond : part_of n r.tag r.level ≡ S.Beyond → bare_in n at (r ∷ rs) ≡ Some (offset at)
   unfolding bare_in
   bare_beyond e = rw (e, bare_in)
 
@@ -106,7 +93,7 @@ module _ (n at : ℕ) (r : Rec) (rs : List Rec) where
   unfolding bare_in
   bare_owned e = rw (e, bare_in)
 
-  bare_passed : part_of n r.tag r.level ≡ S.Passed → bare_in n at (r ∷ rs) ≡ U.Other
+  bare_passed : part_of n r.tag r.level ≡ S.Passed → bare_in n at (r ∷ rs) ≡ None
   unfolding bare_in
   bare_passed e = rw (e, bare_in)
 
@@ -120,7 +107,7 @@ owned_tag n tag level e t = elim (which n tag level) [
 
 -- ---- what it says
 
-ended_at : (at end : ℕ) → U.End (offset at) ≡ U.End (offset end) → at ≡ end
+ended_at : (at end : ℕ) → Some (offset at) ≡ Some (offset end) → at ≡ end
 ended_at at end e = let z : offset at ≡ offset end = cc in ap (λ (p : Offset). p.0) z
 
 pub record Bared (s : List ℕ) (n at end : ℕ) (rs : List Rec) : Type 0 where
@@ -136,17 +123,17 @@ module _ (s : List ℕ) (bs : Bytes s) (n : ℕ) where
   bare_here at end rs q k e =
       rw (← e) (record { from = omega arith; none = ap controls k; past = λ id i. ap (hits id i at) (sym q); keep = λ x. rw q x })
 
-  pub bared : (rs : List Rec) (at end : ℕ) → records_in (drop at s) ≡ rs → bare_in n at rs ≡ U.End (offset end) → Bared s n at end rs
+  pub bared : (rs : List Rec) (at end : ℕ) → records_in (drop at s) ≡ rs → bare_in n at rs ≡ Some (offset end) → Bared s n at end rs
   unfolding bare_in kids
   bared [] at end q e = bare_here at end [] q refl (ended_at at end e)
   bared (r ∷ rs) at end q e = go (part_of n r.tag r.level) refl (stood_of s at bs r rs q).1 (bared rs (at + size r) end)
     where
       go : (x : Side) → part_of n r.tag r.level ≡ x → records_in (drop (at + size r) s) ≡ rs
-          → (records_in (drop (at + size r) s) ≡ rs → bare_in n (at + size r) rs ≡ U.End (offset end) → Bared s n (at + size r) end rs) → Bared s n at end (r ∷ rs)
+          → (records_in (drop (at + size r) s) ≡ rs → bare_in n (at + size r) rs ≡ Some (offset end) → Bared s n (at + size r) end rs) → Bared s n at end (r ∷ rs)
       go S.Beyond x l on =
           bare_here at end (r ∷ rs) q (kids_beyond n r rs (beyond_says n r.tag r.level x))
           (ended_at at end (sym (bare_beyond n at r rs x) ∙ e))
-      go S.Passed x l on = absurd (let z : U.Other ≡ U.End (offset end) = sym (bare_passed n at r rs x) ∙ e in let y : ◌≡◌ {A = ℕ} 0 1 = cc in omega arith)
+      go S.Passed x l on = absurd (let z : None ≡ Some (offset end) = sym (bare_passed n at r rs x) ∙ e in let y : ◌≡◌ {A = ℕ} 0 1 = cc in omega arith)
       go S.Owned x l on =
           let p = part_says n r.tag r.level x in
           let b = on l (sym (bare_owned n at r rs x) ∙ e) in
@@ -175,16 +162,16 @@ module _ {s : List ℕ} {n from at : ℕ} {r : Record} (k : Baring s n from at) 
   here : bare_in n from (records_in (drop from s)) ≡ bare_in n at (d.rec ∷ records_in (drop r.next.0 s))
   here = k.rest ∙ ap (bare_in n at) d.records
 
-  pub baring_end : side_of ≡ S.Beyond → U.End (offset at) ≡ bare_in n from (records_in (drop from s))
+  pub baring_end : side_of ≡ S.Beyond → Some (offset at) ≡ bare_in n from (records_in (drop from s))
   baring_end e = sym (here ∙ bare_beyond n at d.rec _ (sym to ∙ e))
 
-  pub baring_other : side_of ≡ S.Passed → U.Other ≡ bare_in n from (records_in (drop from s))
+  pub baring_other : side_of ≡ S.Passed → None ≡ bare_in n from (records_in (drop from s))
   baring_other e = sym (here ∙ bare_passed n at d.rec _ (sym to ∙ e))
 
   pub baring_on : side_of ≡ S.Owned → Baring s n from r.next.0
   baring_on e =
       record { rest = here ∙ bare_owned n at d.rec _ (sym to ∙ e) ∙ ap (λ (i : ℕ). bare_in n i (records_in (drop r.next.0 s))) (sym d.next-is) }
 
-pub baring_none : {s : List ℕ} {n from at : ℕ} → Baring s n from at → records_in (drop at s) ≡ [] → U.End (offset at) ≡ bare_in n from (records_in (drop from s))
+pub baring_none : {s : List ℕ} {n from at : ℕ} → Baring s n from at → records_in (drop at s) ≡ [] → Some (offset at) ≡ bare_in n from (records_in (drop from s))
 unfolding bare_in
 baring_none k e = sym (k.rest ∙ rw e)

@@ -1,7 +1,4 @@
-pub mod IdLaws
 pub mod ClosingLaws
-pub mod ElseLaws
-pub mod PassLaws
 pub mod FitLaws
 pub mod BareLaws
 pub mod LookLaws

@@ -1,11 +1,11 @@
 -- The search: what it still meets, from a record on and from a position of a paragraph's text on. Assumes nothing.
+use Rattle.std.specs.Prelude.{None, Option, Some}
 use Prim.Native.Nat.{ℕ, suc, ◌+◌, ◌≤◌, ◌<◌}
 use native.Mathlib.Omega.{arith}
 use native.Mathlib.Numerals.{add-one}
 use native.Mathlib.Nat.{zero-add, add-zero}
 use mathlib.Core.Path.{◌≡◌, refl, sym, ap, ap₂, ◌∙◌, subst}
 use mathlib.Core.Bool.{Bool, true, false, cond}
-use mathlib.Core.Option.{Option, none, some}
 use mathlib.Core.List.{List, [], ◌∷◌, ◌++◌, map}
 use lib.Dec.{eqb}
 use lib.ListN.{length, get_or, take, drop, length-drop, length-take}
@@ -19,6 +19,7 @@ use Rattle.records.specs.declared.header.Record.{Record}
 use Rattle.text.specs.Units.{units}
 use Rattle.text.specs.Walk.{Token, tokens, tokens_at, is_extended, extended_in, extended_count, fault, fault_at, text_fault, run}
 use Rattle.text.specs.Answers.{position}
+use Rattle.text.specs.declared.Position.{Position}
 use Rattle.text.specs.declared.Class.{Class}
 use Rattle.text.specs.declared.Class.TheVariants.{Character, Inline, Extended}
 use Rattle.text.specs.declared.Control.{Control}
@@ -31,11 +32,8 @@ use Rattle.text.proofs.ControlLaws.{Reached}
 use Rattle.records.proofs.ReadingLaws.{size_least}
 use Rattle.paragraph.specs.View.{View, view, kids, child, controls}
 use Rattle.paragraph.specs.Stream.{records_in}
-use Rattle.paragraph.specs.Places.{found_in, place_found, body_of, body_found, owned_by, Inside}
+use Rattle.paragraph.specs.Places.{found_in, place_found, body_of, body_found, owned_by, Inside, Found}
 use Rattle.paragraph.specs.Rules.{bytes_in, owner_of}
-use Rattle.paragraph.specs.declared.children.Found.{Found}
-use Rattle.paragraph.specs.declared.children.Found.TheVariants as P
-use Rattle.paragraph.specs.declared.fields.Owner.TheVariants as O
 use Rattle.paragraph.specs.declared.fields.Owned.{Owned}
 use Rattle.paragraph.specs.declared.fields.Owned.TheVariants as K
 use Rattle.paragraph.proofs.StreamLaws.{Stood, stood_of}
@@ -56,11 +54,9 @@ use Rattle.search.specs.declared.seek.Met.{Met}
 use Rattle.search.specs.declared.seek.Met.TheVariants as M
 use Rattle.search.specs.declared.seek.Passed.{Passed}
 use Rattle.search.specs.declared.seek.Seen.{Seen}
-use Rattle.search.specs.declared.passing.Span.{Span}
+use Rattle.filling.specs.declared.Span.{Span}
 use Rattle.search.specs.declared.passing.Look.{Look}
 use Rattle.search.specs.declared.passing.Look.TheVariants as L
-use Rattle.search.specs.declared.passing.Until.{Until}
-use Rattle.search.specs.declared.passing.Until.TheVariants as U
 use Rattle.search.specs.declared.passing.Paragraph.{Paragraph}
 
 -- ---- what was met
@@ -78,9 +74,6 @@ pub record Searching (s : List ℕ) (id : ℕ) (met : Met) (number at : ℕ) : T
   pub fits : Keep (records_in (drop at s))
   pub few : number ≤ at
 
-pub searching_start : (s : List ℕ) (id : ℕ) → Keep (records_in s) → Searching s id M.Nothing 0 0
-searching_start s id f = record { rest = refl; fits = f; few = omega arith }
-
 pub searching_end : {s : List ℕ} {id number at : ℕ} {met : Met} → Searching s id met number at → records_in (drop at s) ≡ []
     → met ≡ met_with M.Nothing (hits id 0 0 (records_in s))
 unfolding met_with hits
@@ -90,29 +83,29 @@ searching_end k e = sym (k.rest ∙ rw e)
 
 -- the bytes of a span are the text among the children at a level of records that begin at `behind`
 pub record TextAt (s : List ℕ) (level behind : ℕ) (rs : List Rec) (g : Span) : Type 0 where
-  pub inside : g.from.0 + g.len ≤ length s
-  pub units_are : units (take g.len (drop g.from.0 s)) ≡ units (bytes_in (child 67 (kids level rs)))
-  pub place_is : g.from.0 ≡ first_byte (found_in level 67 0 behind rs)
+  pub inside : g.place.0 + g.len ≤ length s
+  pub units_are : units (take g.len (drop g.place.0 s)) ≡ units (bytes_in (child 67 (kids level rs)))
+  pub place_is : g.place.0 ≡ first_byte (found_in level 67 0 behind rs)
 
 module _ (s : List ℕ) (bs : Bytes s) (level at : ℕ) where
   text_by : (f : Found) → Inside s f → body_found s f ≡ child 67 (kids level (records_in (drop at s))) → found_in level 67 0 at (records_in (drop at s)) ≡ f
       → TextAt s level at (records_in (drop at s)) (span_of f)
   unfolding units
-  text_by P.Nothing i b e = record { inside = omega arith; units_are = rw (← b); place_is = sym (ap first_byte e) }
-  text_by (P.At p) i b e = record { inside = i; units_are = rw (← b); place_is = sym (ap first_byte e) }
+  text_by None i b e = record { inside = omega arith; units_are = rw (← b); place_is = sym (ap first_byte e) }
+  text_by (Some p) i b e = record { inside = i; units_are = rw (← b); place_is = sym (ap first_byte e) }
 
   pub text_at : TextAt s level at (records_in (drop at s)) (span_of (found_in level 67 0 at (records_in (drop at s))))
   text_at = text_by (found_in level 67 0 at (records_in (drop at s))) (found_inside s bs level 67 at) (child_found s bs level 67 at) refl
 
-sound_start : (us : List ℕ) → text_fault us ≡ none → fault_at us 0 ≡ none
+sound_start : (us : List ℕ) → text_fault us ≡ None → fault_at us 0 ≡ None
 unfolding text_fault fault
 sound_start [] e = refl
 sound_start (u ∷ us) e = e
 
-sound_text : (o : Option (List ℕ)) → TextSound o → fault_at (units (bytes_in o)) 0 ≡ none
+sound_text : (o : Option (List ℕ)) → TextSound o → fault_at (units (bytes_in o)) 0 ≡ None
 unfolding fault units
-sound_text none t = refl
-sound_text (some b) t = sound_start (units b) t
+sound_text None t = refl
+sound_text (Some b) t = sound_start (units b) t
 
 -- ---- from a position of a paragraph's text on
 
@@ -145,7 +138,7 @@ module _ {s text : List ℕ} {g : Paragraph} (h : Here s g text) where
 
 pub record Walking (s : List ℕ) (id : ℕ) (g : Paragraph) (text : List ℕ) (met : Met) (p : ℕ) (w : Passed) : Type 0 where
   pub here : Here s g text
-  pub sound : fault_at (units text) p ≡ none
+  pub sound : fault_at (units text) p ≡ None
   pub enough : w.ordinal + extended_in (tokens_at (units text) p) ≡ length (owns here)
   pub owned : drop w.ordinal (owns here) ≡ drop w.skipped (headers s g.level w.from.0)
   pub spots : (i j : ℕ) → i ≡ w.ordinal + j
@@ -161,7 +154,7 @@ pub record Entered (s : List ℕ) (id : ℕ) (met : Met) (g : Paragraph) (at num
   pub rises : at < g.behind.0
   pub inside : g.behind.0 ≤ length s
   pub number_is : g.number ≡ number
-  pub begins : Walking s id g (take g.len (drop g.text.0 s)) met 0 (begun g.behind)
+  pub begins : Walking s id g (take g.text.len (drop g.text.place.0 s)) met 0 (begun g.behind)
 
 module _ {s : List ℕ} {id number at : ℕ} {met : Met} (bs : Bytes s) (k : Searching s id met number at) where
   -- the paragraph header r at `at`
@@ -185,7 +178,7 @@ module _ {s : List ℕ} {id number at : ℕ} {met : Met} (bs : Bytes s) (k : Sea
             rs_is = q;
             is = refl;
             units_are = x.units_are;
-            short = omega (arith, length-take (span_of (found_in level 67 0 go rs)).len (drop (span_of (found_in level 67 0 go rs)).from.0 s), length-drop (span_of (found_in level 67 0 go rs)).from.0 s);
+            short = omega (arith, length-take (span_of (found_in level 67 0 go rs)).len (drop (span_of (found_in level 67 0 go rs)).place.0 s), length-drop (span_of (found_in level 67 0 go rs)).place.0 s);
             fits = all.1;
             few = k.few;
           };
@@ -215,14 +208,14 @@ module _ {s : List ℕ} {id number at : ℕ} {met : Met} (bs : Bytes s) (k : Sea
 
   -- a paragraph header with nothing but records 67 to 70 below it
   baring : (r : Rec) (rs : List Rec) (end : Offset) → records_in (drop at s) ≡ r ∷ rs → records_in (drop (at + size r) s) ≡ rs → r.tag ≡ 66
-      → bare_in (suc r.level) (at + size r) rs ≡ U.End end → Searching s id met (number + 1) end.0 × (at < end.0)
+      → bare_in (suc r.level) (at + size r) rs ≡ Some end → Searching s id met (number + 1) end.0 × (at < end.0)
   unfolding view fields tokens extended_count with_id
   baring r rs end e q t o =
       let all : Keep (r ∷ rs) = subst Keep e k.fits in
       let b = bared s bs (suc r.level) rs (at + size r) end.0 q o in
       let fine : Fit (view r rs) = fit (view r rs) (all.0 t) in
-      let none : extended_in (tokens (units (bytes_in (child 67 (kids (suc r.level) rs))))) ≡ 0 = fine.owned ∙ ap length b.none in
-      let empty : fields (view r rs) ≡ [] = no_fields 0 0 0 (units (bytes_in (child 67 (kids (suc r.level) rs)))) none in (
+      let None : extended_in (tokens (units (bytes_in (child 67 (kids (suc r.level) rs))))) ≡ 0 = fine.owned ∙ ap length b.none in
+      let empty : fields (view r rs) ≡ [] = no_fields 0 0 0 (units (bytes_in (child 67 (kids (suc r.level) rs)))) None in (
         record {
           rest =
               k.rest ∙ ap (λ (l : List Rec). met_with met (hits id number at l)) e ∙ ap (met_with met) (hits_here id number at r rs t)
@@ -252,9 +245,9 @@ module _ {s : List ℕ} {id number at : ℕ} {met : Met} (bs : Bytes s) (k : Sea
           → Looked (cond b (bare_or (bare_in (suc r.level) (at + size r) rs) (paragraph_at number at r rs)) (L.Passed 0 (offset (at + size r))))
       go true t d q = by (bare_in (suc r.level) (at + size r) rs) refl
         where
-          by : (x : Until) → bare_in (suc r.level) (at + size r) rs ≡ x → Looked (bare_or x (paragraph_at number at r rs))
-          by (U.End end) o = let k = baring r rs end e q (eqb-true r.tag 66 t) o in (k.0, (k.1, (d.some_left, few 1 d (omega arith))))
-          by U.Other o = entering r rs d e q (eqb-true r.tag 66 t)
+          by : (x : Option Offset) → bare_in (suc r.level) (at + size r) rs ≡ x → Looked (bare_or x (paragraph_at number at r rs))
+          by (Some end) o = let k = baring r rs end e q (eqb-true r.tag 66 t) o in (k.0, (k.1, (d.some_left, few 1 d (omega arith))))
+          by None o = entering r rs d e q (eqb-true r.tag 66 t)
       go false t d q = (
         subst (λ (i : ℕ). Searching s id met i (at + size r)) (sym (add-zero number)) (passing r rs e q (eqb-false r.tag 66 t)),
         (omega (arith, size_least r), (d.some_left, few 0 d (omega arith))),
@@ -307,18 +300,18 @@ module _ {s text : List ℕ} {id p : ℕ} {g : Paragraph} {met : Met} {w : Passe
 
 field_a : (n p : ℕ) (o : Option (ℕ × ℕ)) → (field_at n p o).a ≡ p + 8
 unfolding field_at
-field_a n p none = refl
-field_a n p (some x) = refl
+field_a n p None = refl
+field_a n p (Some x) = refl
 
 field_b : (n p : ℕ) (o : Option (ℕ × ℕ)) → (field_at n p o).b ≡ (closing_of o).b.0
 unfolding field_at
-field_b n p none = refl
-field_b n p (some x) = refl
+field_b n p None = refl
+field_b n p (Some x) = refl
 
 field_plain : (n p : ℕ) (o : Option (ℕ × ℕ)) → (field_at n p o).plain ≡ (closing_of o).plain
 unfolding field_at
-field_plain n p none = refl
-field_plain n p (some x) = refl
+field_plain n p None = refl
+field_plain n p (Some x) = refl
 
 -- a hit, number by number
 abbrev hit_of_lem : ℕ → ℕ → ℕ → ℕ → ℕ → ℕ → ℕ → ℕ → Bool → told-hit.Hit
@@ -347,11 +340,11 @@ module _ (id : ℕ) (v : View) (f : Field) (fs : List Field) where
   with_other e = rw (ne_eqb (id_of v f) id e)
 
 -- what owns a control header
-owner_is : (x : Standing) (code : ℕ) → owner_of x ≡ O.Owner code → (k : Control) × (x ≡ St.Control k) × (k.class ≡ Extended) × (k.code ≡ code)
+owner_is : (x : Standing) (code : ℕ) → owner_of x ≡ Some code → (k : Control) × (x ≡ St.Control k) × (k.class ≡ Extended) × (k.code ≡ code)
 owner_is (St.Ordinary u) code e = absurd (let z : ◌≡◌ {A = ℕ} 0 1 = cc in omega arith)
 owner_is (St.Control k) code e = by k.class refl e
   where
-    by : (a : Class) → k.class ≡ a → elim a [ Character ↦ O.Nobody | Inline ↦ O.Nobody | Extended ↦ O.Owner k.code ] ≡ O.Owner code
+    by : (a : Class) → k.class ≡ a → elim a [ Character ↦ None | Inline ↦ None | Extended ↦ Some k.code ] ≡ Some code
         → (j : Control) × (St.Control k ≡ St.Control j) × (j.class ≡ Extended) × (j.code ≡ code)
     by Character h q = absurd (let z : ◌≡◌ {A = ℕ} 0 1 = cc in omega arith)
     by Inline h q = absurd (let z : ◌≡◌ {A = ℕ} 0 1 = cc in omega arith)
@@ -365,14 +358,23 @@ record Stepped (s : List ℕ) (id : ℕ) (g : Paragraph) (text : List ℕ) (h : 
       → found_in g.level 71 i g.behind.0 h.rs ≡ found_in g.level 71 (y.passed.skipped + j) y.passed.from.0 (records_in (drop y.passed.from.0 s))
   few : y.passed.ordinal ≤ n + 1
   fewer : y.passed.skipped ≤ y.passed.ordinal
-  none_here : y.field ≡ false → left_in h id n p ≡ left_in h id y.passed.ordinal q
-  width_is : y.field ≡ true → q ≡ p + 8
-  found_here : y.field ≡ true
+  none_here : y.control ≡ None → left_in h id n p ≡ left_in h id y.passed.ordinal q
+  width_is : (c : Offset) → y.control ≡ Some c → q ≡ p + 8
+  found_here : (c : Offset) → y.control ≡ Some c
       → left_in h id n p ≡ hit_of g.number g.header.0 h.rec h.rs (field_at n p (next (tokens_at (units text) q))) ∷ left_in h id y.passed.ordinal q
-  control-is : y.field ≡ true → y.control.0 ≡ place_found 0 (found_in g.level 71 n g.behind.0 h.rs)
+  control-is : (c : Offset) → y.control ≡ Some c → c.0 ≡ place_found 0 (found_in g.level 71 n g.behind.0 h.rs)
 
-not_both : {A : Type 0} {b : Bool} → b ≡ false → b ≡ true → A
-not_both e h = absurd (let z : ◌≡◌ {A = ℕ} 0 1 = cc in omega arith)
+no_control : {A : Type 0} {c : Offset} → ◌≡◌ {A = Option Offset} None (Some c) → A
+no_control e = absurd (let z : ◌≡◌ {A = ℕ} 0 1 = cc in omega arith)
+
+-- a control header that is told where a test holds
+told_not : (b : Bool) (p : Offset) → ◌≡◌ {A = Option Offset} (cond b (Some p) None) None → b ≡ false
+told_not true p e = no_control (sym e)
+told_not false p e = refl
+
+told_there : (b : Bool) (p c : Offset) → ◌≡◌ {A = Option Offset} (cond b (Some p) None) (Some c) → (b ≡ true) × (c ≡ p)
+told_there true p c e = (refl, cc)
+told_there false p c e = no_control e
 
 module _ {s text : List ℕ} {id p q : ℕ} {g : Paragraph} {met : Met} {w : Passed} {x : Standing} (bs : Bytes s)
     (k : Walking s id g text met p w) (o : Onward (units text) p x q) where
@@ -401,9 +403,9 @@ module _ {s text : List ℕ} {id p q : ℕ} {g : Paragraph} {met : Met} {w : Pas
         few = omega arith;
         fewer = k.fewer;
         none_here = λ h. ap (left_of k) f;
-        width_is = λ h. not_both refl h;
-        found_here = λ h. not_both refl h;
-        control-is = λ h. not_both refl h;
+        width_is = λ c h. no_control h;
+        found_here = λ c h. no_control h;
+        control-is = λ c h. no_control h;
       }
 
   -- another class has another code
@@ -411,7 +413,7 @@ module _ {s text : List ℕ} {id p q : ℕ} {g : Paragraph} {met : Met} {w : Pas
   three_not c is h z other =
       other (sym h ∙ field_extended (get_or (units text) p 0) c (sym o.begins ∙ is) z)
 
-  stay_nobody : owner_of x ≡ O.Nobody → After (unseen w)
+  stay_nobody : owner_of x ≡ None → After (unseen w)
   unfolding extended_in
   stay_nobody e = go x refl e
     where
@@ -420,12 +422,12 @@ module _ {s text : List ℕ} {id p q : ℕ} {g : Paragraph} {met : Met} {w : Pas
           stay (ap (fields_in n) o.tokens ∙ fields_other (record { at = p; what = x }) ahead n e h ∙ ap (λ (m : ℕ). fields_in m ahead) (rw z (zero-add n)))
           (ap extended_in o.tokens ∙ ap (λ (y : Standing). is_extended y + extended_in ahead) e ∙ rw z (zero-add _))
 
-      by : (a : Class) (c : Control) → x ≡ St.Control c → c.class ≡ a → elim a [ Character ↦ O.Nobody | Inline ↦ O.Nobody | Extended ↦ O.Owner c.code ] ≡ O.Nobody → After (unseen w)
+      by : (a : Class) (c : Control) → x ≡ St.Control c → c.class ≡ a → ◌≡◌ {A = Option ℕ} (elim a [ Character ↦ None | Inline ↦ None | Extended ↦ Some c.code ]) None → After (unseen w)
       by Character c is h q = control c is (rw h) (λ z. three_not c is h z (λ r. let y : ◌≡◌ {A = ℕ} 0 1 = cc in omega arith))
       by Inline c is h q = control c is (rw h) (λ z. three_not c is h z (λ r. let y : ◌≡◌ {A = ℕ} 0 1 = cc in omega arith))
       by Extended c is h q = absurd (let z : ◌≡◌ {A = ℕ} 0 1 = cc in omega arith)
 
-      go : (y : Standing) → x ≡ y → owner_of y ≡ O.Nobody → After (unseen w)
+      go : (y : Standing) → x ≡ y → owner_of y ≡ None → After (unseen w)
       go (St.Ordinary u) is q =
           stay (ap (fields_in n) o.tokens ∙ fields_ordinary (record { at = p; what = x }) ahead n is)
           (ap extended_in o.tokens ∙ ap (λ (y : Standing). is_extended y + extended_in ahead) is ∙ zero-add _)
@@ -457,9 +459,9 @@ module _ {s text : List ℕ} {id p q : ℕ} {g : Paragraph} {met : Met} {w : Pas
           none_here = λ z.
               ap (left_of k)
               (ap (fields_in n) o.tokens ∙ fields_other (record { at = p; what = x }) ahead n is h ∙ ap (λ (m : ℕ). fields_in m ahead) up);
-          width_is = λ z. not_both refl z;
-          found_here = λ z. not_both refl z;
-          control-is = λ z. not_both refl z;
+          width_is = λ c z. no_control z;
+          found_here = λ c z. no_control z;
+          control-is = λ c z. no_control z;
         }
       where
         over : (j : ℕ) → w.skipped + suc j ≡ w.skipped + 1 + j
@@ -476,6 +478,9 @@ module _ {s text : List ℕ} {id p q : ℕ} {g : Paragraph} {met : Met} {w : Pas
     module _ (three : c.code ≡ 3) (t : Record) (d : Owning s g.level w.skipped w.from.0 t) where
       front : drop n (owns place) ≡ body_of s t ∷ headers s g.level t.next.0
       front = k.owned ∙ d.headers_are
+
+      abbrev has_id : Bool
+      has_id = eqb (id_in (body_of s t)) id
 
       abbrev here_field : Field
       here_field = field_at n p (next ahead)
@@ -508,12 +513,20 @@ module _ {s text : List ℕ} {id p q : ℕ} {g : Paragraph} {met : Met} {w : Pas
             fewer = omega arith;
             none_here = λ h.
                 ap (left_of k) fields_three
-                ∙ ap hits_of (with_other id viewed here_field (fields_in (n + 1) ahead) (λ r. eqb-false (id_in (body_of s t)) id h (sym id_is ∙ r)));
-            width_is = λ h. o.further ∙ rw (is, ext);
-            found_here = λ h.
+                ∙ ap hits_of
+                (with_other id viewed here_field (fields_in (n + 1) ahead)
+                (λ r. eqb-false (id_in (body_of s t)) id (told_not has_id t.at h) (sym id_is ∙ r)));
+            width_is = λ c h. o.further ∙ rw (is, ext);
+            found_here = λ c h.
                 ap (left_of k) fields_three
-                ∙ ap hits_of (with_here id viewed here_field (fields_in (n + 1) ahead) (id_is ∙ eqb-true (id_in (body_of s t)) id h));
-            control-is = λ h. sym (ap (place_found 0) (k.spots n 0 (sym (add-zero n)) ∙ ap (λ (m : ℕ). found_in g.level 71 m w.from.0 (records_in (drop w.from.0 s))) (add-zero w.skipped) ∙ d.found));
+                ∙ ap hits_of
+                (with_here id viewed here_field (fields_in (n + 1) ahead) (id_is ∙ eqb-true (id_in (body_of s t)) id (told_there has_id t.at c h).0));
+            control-is = λ c h.
+                ap (λ (x : Offset). x.0) (told_there has_id t.at c h).1
+                ∙ sym
+                (ap (place_found 0)
+                (k.spots n 0 (sym (add-zero n))
+                ∙ ap (λ (m : ℕ). found_in g.level 71 m w.from.0 (records_in (drop w.from.0 s))) (add-zero w.skipped) ∙ d.found));
           }
         where
           later : (j : ℕ) → w.skipped + suc j ≡ suc (w.skipped + j)
@@ -541,38 +554,40 @@ module _ {s text : List ℕ} {id p q : ℕ} {g : Paragraph} {met : Met} {w : Pas
     abbrev this : Hit
     this = hit_of g.number g.header.0 place.rec place.rs (field_at n p (next ahead))
 
-    abbrev hit : told-hit.Hit
-    hit = hit_from g n (position q) y.control (closing_of (next ahead))
+    abbrev hit : Offset → told-hit.Hit
+    hit c = hit_from g n (position q) c (closing_of (next ahead))
 
-    this_is : y.field ≡ true → hit ≡ told this
+    this_is : (c : Offset) → y.control ≡ Some c → hit c ≡ told this
     unfolding hit_of
-    this_is h =
+    this_is c h =
         let t = stepped y e in
         same_hit
-        (ap (λ (g : Paragraph). g.text.0) place.is ∙ from_is (found_in (suc place.rec.level) 67 0 (g.header.0 + size place.rec) place.rs))
-        (t.control-is h
+        (ap (λ (g : Paragraph). g.text.place.0) place.is ∙ from_is (found_in (suc place.rec.level) 67 0 (g.header.0 + size place.rec) place.rs))
+        (t.control-is c h
         ∙ ap₂ (λ (l b : ℕ). place_found 0 (found_in l 71 n b place.rs)) (level_is place) (behind-is place)
         ∙ ap (λ (i : ℕ). place_found 0 (found_in (suc place.rec.level) 71 i (g.header.0 + size place.rec) place.rs)) (sym (field_ordinal n p (next ahead))))
         (ap (λ (g : Paragraph). g.marks) place.is)
         (sym (field_ordinal n p (next ahead)))
-        (t.width_is h ∙ sym (field_a n p (next ahead)))
+        (t.width_is c h ∙ sym (field_a n p (next ahead)))
         (sym (field_b n p (next ahead)))
         (sym (field_plain n p (next ahead)))
       where
-        from_is : (f : Found) → (span_of f).from.0 ≡ first_byte f
-        from_is (P.At p) = refl
-        from_is P.Nothing = refl
+        from_is : (f : Found) → (span_of f).place.0 ≡ first_byte f
+        from_is (Some p) = refl
+        from_is None = refl
 
-    met_by_lem : (b : Bool) → y.field ≡ b → met_with M.Nothing (hits id 0 0 (records_in s)) ≡ met_with (cond b (met_next met hit) met) (left_in place id y.passed.ordinal q)
+    met_by_lem : (o : Option Offset) → y.control ≡ o
+        → met_with M.Nothing (hits id 0 0 (records_in s)) ≡ met_with (met_by met o hit) (left_in place id y.passed.ordinal q)
     unfolding met_with
-    met_by_lem true h =
-        k.rest ∙ ap (met_with met) ((stepped y e).found_here h)
-        ∙ ap (λ (z : told-hit.Hit). met_with (met_next met z) (left_in place id y.passed.ordinal q)) (sym (this_is h))
-    met_by_lem false h = k.rest ∙ ap (met_with met) ((stepped y e).none_here h)
+    met_by_lem (Some c) h =
+        k.rest ∙ ap (met_with met) ((stepped y e).found_here c h)
+        ∙ ap (λ (z : told-hit.Hit). met_with (met_next met z) (left_in place id y.passed.ordinal q)) (sym (this_is c h))
+    met_by_lem None h = k.rest ∙ ap (met_with met) ((stepped y e).none_here h)
 
-    pub walking_on : (m : Met) → m ≡ met_by met y (hit_from g n (position q) y.control (closing_of (next (tokens_at (units text) q))))
-        → Walking s id g text m q y.passed
-    walking_on m f =
+    pub walking_on : (m : Met) {u : List ℕ} {a : Position} → (u ≡ text) × (a ≡ position q)
+        → m ≡ met_by met y.control (λ (c : Offset). hit_from g n a c (closing_of (next (tokens_at (units u) a.0)))) → Walking s id g text m q y.passed
+    walking_on m a d =
+        let f : m ≡ met_by met y.control hit = rw (a.0, a.1) at d in
         let t = stepped y e in
         record {
           here = place;
@@ -582,7 +597,7 @@ module _ {s text : List ℕ} {id p q : ℕ} {g : Paragraph} {met : Met} {w : Pas
           spots = t.spots;
           few = omega (arith, t.few, k.few, o.rises);
           fewer = t.fewer;
-          rest = met_by_lem y.field refl ∙ ap (λ (m : Met). met_with m (left_in place id y.passed.ordinal q)) (sym f);
+          rest = met_by_lem y.control refl ∙ ap (λ (m : Met). met_with m (left_in place id y.passed.ordinal q)) (sym f);
         }
 
 module _ {s text : List ℕ} {id p : ℕ} {g : Paragraph} {met : Met} {w : Passed} (k : Walking s id g text met p w) where
@@ -605,5 +620,5 @@ module _ {s text : List ℕ} {id p : ℕ} {g : Paragraph} {met : Met} {w : Passe
   pub walking_few : {q : ℕ} {x : Standing} → Onward (units text) p x q → w.ordinal ≤ length s
   walking_few o = omega (arith, k.few, o.rises, o.fits, length-units text, k.here.short)
 
-  pub walking_sound : {q : ℕ} {x : Standing} → Onward (units text) p x q → fault_at (units text) q ≡ none
+  pub walking_sound : {q : ℕ} {x : Standing} → Onward (units text) p x q → fault_at (units text) q ≡ None
   walking_sound o = sym o.fault ∙ k.sound

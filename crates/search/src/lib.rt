@@ -3,6 +3,7 @@
 
 mod passing;
 mod seek;
+mod sound;
 
-pub use passing::{Look, Paragraph, Span, Until};
+pub use passing::{Look, Paragraph};
 pub use seek::{Closing, Field, Hit, Met, Passed, SectionSearch, Seen, search_section};

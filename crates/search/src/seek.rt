@@ -1,8 +1,7 @@
 // The search for the fields with an id.
-ghost use Rattle.std.specs.Prelude.{◌≡◌, ◌≤◌, ◌<◌, length, take, drop};
-ghost use Rattle.std.proofs.Math.Option.{none};
+ghost use Rattle.std.specs.Prelude.{◌≡◌, ◌≤◌, length, drop};
 ghost use Rattle.text.specs.Units.{units};
-ghost use Rattle.text.specs.Walk.{tokens_at, fault_at};
+ghost use Rattle.text.specs.Walk.{tokens_at};
 ghost use Rattle.paragraph.specs.Stream.{records_in};
 ghost use Rattle.paragraph.specs.Places.{owned_by};
 ghost use Rattle.paragraph.specs.Rules.{owner_of};
@@ -10,15 +9,16 @@ ghost use Rattle.paragraph.specs.declared.fields.Owned.TheVariants as K;
 ghost use Rattle.filling.specs.Fields.{id_in, next};
 ghost use Rattle.filling.specs.Search.{hits};
 ghost use Rattle.search.specs.Searching.{met_with, section_search};
-ghost use Rattle.search.specs.Steps.{closing_of, closing_by, seen_of, begun, hit_from, met_by};
+ghost use Rattle.search.specs.Steps.{closing_of, closing_by, seen_of, hit_from, met_by};
 ghost use Rattle.search.specs.Steps as Steps;
 ghost use Rattle.search.specs.Accepted.{Keep};
 
 use crate::passing::{Look, Paragraph, look_at};
-use numbers::{number16, number32, part, wide};
+use crate::sound::SoundFrom;
+use numbers::{little_at, part, wide};
 use paragraph::{Owned, body, owned_header};
 use reader::next_control;
-use records::{Answer, Offset, Record, Refusal};
+use records::{Offset, Record, Refusal};
 use section::check;
 use text::{Position, Standing, Step};
 
@@ -44,7 +44,7 @@ pub struct Hit {
     pub field: Field,
 }
 
-// What the search met: no field with the id, one, or a second with this control header.
+// What the search met: no field with the id, one, or a second with this control header. Three ways, each with a number of its own.
 #[derive(Clone, Copy)]
 pub enum Met {
     Nothing,
@@ -52,14 +52,10 @@ pub enum Met {
     Twice(Offset),
 }
 
-// What the search of a section comes to: check's refusal, or what was met.
-#[derive(Clone, Copy)]
-pub enum SectionSearch {
-    Refused(Refusal),
-    Met(Met),
-}
+// What the search of a section comes to: what was met, or check's refusal.
+pub type SectionSearch = Result<Met, Refusal>;
 
-// The unit that closes a field: its position, and whether it is code 4.
+// The unit that closes a field: its position, and whether it is code 4. No Option: where nothing closes it, a field itself has 0 and false.
 #[derive(Clone, Copy)]
 pub struct Closing {
     pub b: Position,
@@ -75,61 +71,46 @@ pub struct Passed {
     pub skipped: usize,
 }
 
-// The control headers passed behind a step, and whether the step was a field with the id, whose control header stands at `control`.
+// The control headers passed behind a step, and the control header of the field with the id that the step was, if it was one.
 #[derive(Clone, Copy)]
 pub struct Seen {
     pub passed: Passed,
-    pub field: bool,
-    pub control: Offset,
+    pub control: Option<Offset>,
 }
 
 // The id in a field's control header; a byte that is not there counts as 0.
+#[tactic(auto, unfolding(filling::specs::Fields::id_in))]
 fn id_in(body: &[u8]) -> u32
     ensures { result ≡ id_in body.now }
 {
-    if body.len() < 11 {
-        return 0;
-    }
-    let at = 11 + 2 * wide(number16(&body[9..]));
-    if body.len() < at {
-        return 0;
-    }
-    number32(&body[at..])
+    little_at::<4>(body, 11 + 2 * wide(little_at::<2>(body, 9)))
 }
 
-// The unit at b closes a field, where what stands there is a control.
-fn closing_at(b: Position, what: Standing) -> Closing
-    ensures { result ≡ closing_by b.0 what }
+// The unit at which a step stands closes a field, where it is a control.
+fn closing_at(step: Step) -> Closing
+    ensures { result ≡ closing_by step }
 {
-    match what {
-        Standing::Ordinary(_) => Closing {
-            b: Position(0),
-            plain: false,
-        },
-        Standing::Control(c) => Closing {
+    match step {
+        Step::Stands {
+            at: b,
+            what: Standing::Control(c),
+            ..
+        } => Closing {
             b,
             plain: c.code == 4,
         },
+        _ => Closing {
+            b: Position(0),
+            plain: false,
+        },
     }
 }
 
-// The next unit below 32 from position a on, from where on the text is sound.
-fn closed_by(text: &[u8], a: Position) -> Closing
-    requires { fault_at (units text.now) a.0 ≡ none }
-    ensures { result ≡ closing_of (next (tokens_at (units text.now) a.0)) }
+// The next unit below 32, from where on the text is sound.
+fn closed_by(from: SoundFrom) -> Closing
+    ensures { result ≡ closing_of (next (tokens_at (units from.entry.text.now) from.entry.at.0)) }
 {
-    let Step::Stands {
-        at: b,
-        what,
-        next: _,
-    } = next_control(text, a)
-    else {
-        return Closing {
-            b: Position(0),
-            plain: false,
-        };
-    };
-    closing_at(b, what)
+    closing_at(next_control(from.text, from.at))
 }
 
 // A field, by the control header that it owns.
@@ -137,17 +118,13 @@ fn own(s: &[u8], id: u32, passed: Passed, r: Record) -> Seen
     requires { passed.ordinal ≤ length s.now }
     ensures { result ≡ seen_of s.now id passed (K.Header r) }
 {
-    let control = r.at;
-    let from = r.next;
-    let ordinal = passed.ordinal + 1;
     Seen {
         passed: Passed {
-            ordinal,
-            from,
+            ordinal: passed.ordinal + 1,
+            from: r.next,
             skipped: 0,
         },
-        field: id_in(body(s, r)) == id,
-        control,
+        control: (id_in(body(s, r)) == id).then_some(r.at),
     }
 }
 
@@ -157,8 +134,7 @@ fn unseen(passed: Passed) -> Seen
 {
     Seen {
         passed,
-        field: false,
-        control: Offset(0),
+        control: None,
     }
 }
 
@@ -167,76 +143,55 @@ fn pass(s: &[u8], level: u32, id: u32, what: Standing, passed: Passed) -> Seen
     requires { (passed.ordinal ≤ length s.now) × (passed.skipped ≤ passed.ordinal) }
     ensures { result ≡ seen_of s.now id passed (owned_by level passed.skipped passed.from.0 (records_in (drop passed.from.0 s.now)) (owner_of what)) }
 {
-    let from = passed.from;
-    match owned_header(s, from, level, passed.skipped, what) {
+    let Passed {
+        ordinal,
+        from,
+        skipped,
+    } = passed;
+    match owned_header(s, from, level, skipped, what) {
         Owned::Header(r) => own(s, id, passed, r),
         Owned::Other => unseen(Passed {
-            ordinal: passed.ordinal + 1,
+            ordinal: ordinal + 1,
             from,
-            skipped: passed.skipped + 1,
+            skipped: skipped + 1,
         }),
-        Owned::Nobody => unseen(passed),
-        Owned::Lacking => unseen(passed),
+        Owned::Nobody | Owned::Lacking => unseen(passed),
     }
 }
 
-// No control header of a paragraph is passed, whose children begin at `behind`.
-fn begin(behind: Offset) -> Passed
-    ensures { result ≡ begun behind }
+// The field of a paragraph behind whose control, which owns the control header at `control`, the text is sound.
+fn hit_at(g: Paragraph, ordinal: usize, control: Offset, from: SoundFrom) -> Hit
+    ensures { result ≡ hit_from g ordinal from.entry.at control (closing_of (next (tokens_at (units from.entry.text.now) from.entry.at.0))) }
 {
-    Passed {
-        ordinal: 0,
-        from: behind,
-        skipped: 0,
-    }
-}
-
-// The bytes of a paragraph's text.
-fn text_in<'a>(s: &'a [u8], g: Paragraph) -> &'a [u8]
-    ensures { result.now ≡ take g.len (drop g.text.0 s.now) }
-{
-    let from = g.text;
-    part(s, from.0, g.len)
-}
-
-// The field of a paragraph behind whose control, which owns the control header at `control`, the walk stands at a.
-fn hit_at(g: Paragraph, text: &[u8], ordinal: usize, a: Position, control: Offset) -> Hit
-    requires { fault_at (units text.now) a.0 ≡ none }
-    ensures { result ≡ hit_from g ordinal a control (closing_of (next (tokens_at (units text.now) a.0))) }
-{
-    let end = closed_by(text, a);
-    let header = g.header;
-    let from = g.text;
-    let b = end.b;
+    let Closing { b, plain } = closed_by(from);
     Hit {
         paragraph: g.number,
-        header,
-        text: from,
+        header: g.header,
+        text: g.text.place,
         control,
         marks: g.marks,
         field: Field {
             ordinal,
-            a,
+            a: from.at,
             b,
-            plain: end.plain,
+            plain,
         },
     }
 }
 
-// What was met with a step behind which the walk stands at a, and before which `ordinal` extended controls stand.
-fn meet(met: Met, seen: Seen, g: Paragraph, text: &[u8], ordinal: usize, a: Position) -> Met
-    requires { fault_at (units text.now) a.0 ≡ none }
-    ensures { result ≡ met_by met seen (hit_from g ordinal a seen.control (closing_of (next (tokens_at (units text.now) a.0)))) }
+// What was met with a step that was the field that owns the control header at `control`, if it was one; the text is sound behind the step,
+// and `ordinal` extended controls stand before it.
+fn meet(met: Met, control: Option<Offset>, g: Paragraph, ordinal: usize, from: SoundFrom) -> Met
+    ensures { result ≡ met_by met control (λ p. hit_from g ordinal from.entry.at p (closing_of (next (tokens_at (units from.entry.text.now) from.entry.at.0)))) }
 {
-    let control = seen.control;
-    if seen.field {
-        return match met {
-            Met::Nothing => Met::One(hit_at(g, text, ordinal, a, control)),
-            Met::One(_) => Met::Twice(control),
-            Met::Twice(second) => Met::Twice(second),
-        };
+    let Some(control) = control else {
+        return met;
+    };
+    match met {
+        Met::Nothing => Met::One(hit_at(g, ordinal, control, from)),
+        Met::One(_) => Met::Twice(control),
+        Met::Twice(_) => met,
     }
-    met
 }
 
 // All fields with the id, in stream order and in each paragraph in the order of its text. The second leaves paragraph and text together.
@@ -245,8 +200,9 @@ fn search(s: &[u8], id: u32) -> Met
     ensures { result ≡ met_with Met.Nothing (hits id 0 0 (records_in s.now)) }
 {
     let mut met = Met::Nothing;
-    let mut number: usize = 0;
+    let mut number = 0;
     let mut at = Offset(0);
+    // Nested loops broken by a label, over a cursor by value (document 01's forms).
     'search: loop {
         match look_at(s, number, at) {
             Look::Nothing => break,
@@ -255,24 +211,30 @@ fn search(s: &[u8], id: u32) -> Met
                 at = next;
             }
             Look::Paragraph(g) => {
-                let text = text_in(s, g);
-                let behind = g.behind;
-                let mut passed = begin(behind);
+                let text = part(s, g.text.place.0, g.text.len);
+                let mut passed = Passed {
+                    ordinal: 0,
+                    from: g.behind,
+                    skipped: 0,
+                };
                 let mut walk = Position(0);
-                loop {
-                    let Step::Stands { at: _, what, next } = next_control(text, walk) else {
-                        break;
-                    };
+                while let Step::Stands { what, next, .. } = next_control(text, walk) {
                     walk = next.at;
                     let seen = pass(s, g.level, id, what, passed);
-                    met = meet(met, seen, g, text, passed.ordinal, walk);
+                    met = meet(
+                        met,
+                        seen.control,
+                        g,
+                        passed.ordinal,
+                        SoundFrom::new(text, walk),
+                    );
                     passed = seen.passed;
-                    if let Met::Twice(_) = met {
+                    if matches!(met, Met::Twice(_)) {
                         break 'search;
                     }
                 }
                 number += 1;
-                at = behind;
+                at = g.behind;
             }
         }
     }
@@ -283,8 +245,6 @@ fn search(s: &[u8], id: u32) -> Met
 pub fn search_section(s: &[u8], id: u32) -> SectionSearch
     ensures { result ≡ section_search s.now id }
 {
-    match check(s) {
-        Answer::Accepted(_) => SectionSearch::Met(search(s, id)),
-        Answer::Refused(r) => SectionSearch::Refused(r),
-    }
+    check(s)?;
+    Ok(search(s, id))
 }

@@ -5,7 +5,6 @@ use mathlib.Core.Path.{◌≡◌, refl, sym, ap, ◌∙◌}
 use mathlib.Core.Logic.{◌⊎◌, inl, inr}
 use mathlib.Core.Bool.{Bool, true, false, cond, ◌&&◌}
 use mathlib.Core.List.{List, [], ◌∷◌}
-use lib.Dec.{ltb}
 use borrow.Author.Tests.{lt-ltb, le-ltb, le-leb, lt-leb}
 use Rattle.records.specs.Records.{Rec, size}
 use Rattle.text.proofs.Cases.{lt_or}
@@ -28,10 +27,6 @@ between_out lo hi d e = go (lt_or d lo) (lt_or d hi)
     go (inl a) b = inl a
     go (inr a) (inr b) = inr b
     go (inr a) (inl b) = absurd (let z : ◌≡◌ {A = Bool} true false = sym (between_in lo hi d a b) ∙ e in let y : ◌≡◌ {A = ℕ} 0 1 = cc in omega arith)
-
--- from lo on only the upper end is asked
-pub between_by : (lo hi d : ℕ) → lo ≤ d → ltb d hi ≡ between lo hi d
-between_by lo hi d a = rw (le-leb lo d a)
 
 module _ (depth : Rec → ℕ) (test : List Rec → Rec → List Rec → Bool) (lo hi e : ℕ) where
   pub first_next : (at : ℕ) (earlier : List Rec) (r : Rec) (rs : List Rec)

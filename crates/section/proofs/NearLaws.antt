@@ -1,8 +1,8 @@
 -- Every place that check and the section read answer is within the limit. Assumes nothing.
+use Rattle.std.specs.Prelude.{Err, Ok, Option, Some}
 use Prim.Native.Nat.{ℕ, ◌+◌, ◌≤◌}
 use native.Mathlib.Omega.{arith}
 use mathlib.Core.Bool.{Bool, true, false, cond}
-use mathlib.Core.Option.{Option, some}
 use mathlib.Core.List.{List, [], ◌∷◌}
 use lib.ListN.{length}
 use Rattle.numbers.specs.Little.{Bytes}
@@ -11,16 +11,14 @@ use Rattle.records.specs.Reading.{read_all}
 use Rattle.records.specs.Answers.{place}
 use Rattle.records.specs.declared.fault.Refusal.{Refusal}
 use Rattle.records.proofs.ScanLaws.{length-encode, Near, judged_near}
-use Rattle.paragraph.specs.declared.finding.Finding.{Finding}
-use Rattle.paragraph.specs.declared.finding.Finding.TheVariants as G
 use Rattle.paragraph.specs.View.{view}
-use Rattle.paragraph.specs.Rules.{first_fault}
+use Rattle.paragraph.specs.Rules.{first_fault, Finding}
 use Rattle.paragraph.proofs.NearLaws.{NamesIf, names, place_near}
 use Rattle.section.specs.Parents.{header, misplaced, stray_from}
 use Rattle.section.specs.Section.{refusal_or, finding_of, paragraphs_fault, stray_or, section_fault, section_answer, check_answer}
 
 -- what the finding of a record names, where it is a paragraph header and where not
-pub finding_names : (r : Rec) (rs : List Rec) (b : Bool) → NamesIf (view r rs).own (cond b (first_fault (r ∷ rs)) G.Lawful)
+pub finding_names : (r : Rec) (rs : List Rec) (b : Bool) → NamesIf (view r rs).own (cond b (first_fault (r ∷ rs)) (Ok tt))
 unfolding first_fault
 finding_names r rs true = names (view r rs)
 finding_names r rs false = tt
@@ -33,8 +31,8 @@ paragraphs_near at end (r ∷ rs) h =
   where
     by : (x : Finding) → NamesIf (view r rs).own x → Near end (paragraphs_fault (at + size r) rs)
         → Near end (refusal_or at (r ∷ rs) x (paragraphs_fault (at + size r) rs))
-    by G.Lawful n rest = rest
-    by (G.Breach f w) n rest = omega (arith, place_near at r rs f w n, h)
+    by (Ok tt) n rest = rest
+    by (Err b) n rest = omega (arith, place_near at r rs b.fault b.which n, h)
 
 stray_near : (at end : ℕ) (earlier rs : List Rec) (rest : Option Refusal) → at + length (encode rs) ≤ end → Near end rest
     → Near end (stray_or (stray_from at earlier rs) rest)
@@ -44,7 +42,7 @@ stray_near at end earlier (r ∷ rs) rest h k =
     by (misplaced r earlier) (stray_near (at + size r) end (r ∷ earlier) rs rest (omega (arith, length-encode r rs, h)) k)
   where
     by : (b : Bool) → Near end (stray_or (stray_from (at + size r) (r ∷ earlier) rs) rest)
-        → Near end (stray_or (cond b (some at) (stray_from (at + size r) (r ∷ earlier) rs)) rest)
+        → Near end (stray_or (cond b (Some at) (stray_from (at + size r) (r ∷ earlier) rs)) rest)
     by true further = omega (arith, h)
     by false further = further
 

@@ -1,5 +1,6 @@
 -- The number kept for a level says what rule 9 asks of the records there. Assumes nothing.
-use Prim.Native.Nat.{ℕ, ◌+◌, ◌*◌, ◌/◌, ◌%◌, ◌≤◌, ◌<◌}
+use Rattle.std.specs.Prelude.{None, Some}
+use Prim.Native.Nat.{ℕ, ◌+◌, ◌*◌, ◌/◌, ◌%◌, ◌<◌}
 use native.Mathlib.Omega.{arith}
 use native.Mathlib.Nat.{div-div-eq-div-mul, zero-add}
 use mathlib.Core.Path.{◌≡◌, refl, sym, ap, ◌∙◌, subst}
@@ -14,8 +15,6 @@ use Rattle.records.proofs.ParentLaws.{parent_skip, parent_here}
 use Rattle.text.proofs.Cases.{eq_or}
 use Rattle.section.specs.Parents.{doubled, leaf, header, parent_is, misplaced}
 use Rattle.section.specs.Seats.{own_code, bit_of, has, seat_leaf, seat_of}
-use Rattle.section.specs.declared.parents.Seat.{Seat}
-use Rattle.section.specs.declared.parents.Seat.TheVariants as T
 
 -- ---- the four tags
 
@@ -177,8 +176,8 @@ speaks_own r e = by (header r.tag) refl (leaf r.tag) refl
 -- ---- a record takes its seat exactly where rule 9 does not name it
 
 pub data Seating (code : ℕ) (r : Rec) (e : List Rec) : Type 0 where
-  strays : seat_of code r.tag ≡ T.Stray → misplaced r e ≡ true → Seating code r e
-  sits : (c : ℕ) → seat_of code r.tag ≡ T.Seated c → misplaced r e ≡ false → Speaks c r.level (r ∷ e) → Seating code r e
+  strays : seat_of code r.tag ≡ None → misplaced r e ≡ true → Seating code r e
+  sits : (c : ℕ) → seat_of code r.tag ≡ Some c → misplaced r e ≡ false → Speaks c r.level (r ∷ e) → Seating code r e
 
 module _ (code : ℕ) (r : Rec) (e : List Rec) where
   abbrev above : List Rec
@@ -233,74 +232,10 @@ module _ (code : ℕ) (r : Rec) (e : List Rec) where
   seating (under_header q p h k) = under_by q p h k (leaf r.tag) refl
 
 -- with 0 any record takes its seat
-free_by : (t : ℕ) (l : Bool) → leaf t ≡ l → seat_of 0 t ≡ T.Seated (cond l (bit_of t) 0)
+free_by : (t : ℕ) (l : Bool) → leaf t ≡ l → seat_of 0 t ≡ Some (cond l (bit_of t) 0)
 unfolding seat_of seat_leaf
-free_by t true l = rw (l, bits_none (leaf_of t l)) (ap T.Seated (zero-add (bit_of t)))
+free_by t true l = rw (l, bits_none (leaf_of t l)) (ap Some (zero-add (bit_of t)))
 free_by t false l = rw l
 
-pub seat_free : (t : ℕ) → seat_of 0 t ≡ T.Seated (cond (leaf t) (bit_of t) 0)
+pub seat_free : (t : ℕ) → seat_of 0 t ≡ Some (cond (leaf t) (bit_of t) 0)
 seat_free t = free_by t (leaf t) refl
-
--- ---- the leaves of the code
-
-module _ (t : ℕ) where
-  pub leaf_low : t < 67 → false ≡ leaf t
-  unfolding leaf
-  leaf_low h = rw (lt-leb 67 t h)
-
-  pub leaf_by : 67 ≤ t → leb t 70 ≡ leaf t
-  unfolding leaf
-  leaf_by h = rw (le-leb 67 t h)
-
-  pub own_header : t ≡ 66 → 0 ≡ own_code t
-  unfolding own_code header
-  own_header e = rw (eq-eqb t 66 e)
-
-  pub own_leaf : (b : Bool) → (t ≡ 66 → ⊥) → b ≡ leaf t → b ≡ true → 32 ≡ own_code t
-  unfolding own_code header
-  own_leaf b h e q = rw (ne_eqb t 66 h, ← e, q)
-
-  pub own_other : (b : Bool) → (t ≡ 66 → ⊥) → b ≡ leaf t → b ≡ false → 16 ≡ own_code t
-  unfolding own_code header
-  own_other b h e q = rw (ne_eqb t 66 h, ← e, q)
-
-  pub bit_67 : t ≡ 67 → 1 ≡ bit_of t
-  unfolding bit_of
-  bit_67 e = rw (eq-eqb t 67 e)
-
-  pub bit_68 : (t ≡ 67 → ⊥) → t ≡ 68 → 2 ≡ bit_of t
-  unfolding bit_of
-  bit_68 a e = rw (ne_eqb t 67 a, eq-eqb t 68 e)
-
-  pub bit_69 : (t ≡ 67 → ⊥) → (t ≡ 68 → ⊥) → t ≡ 69 → 4 ≡ bit_of t
-  unfolding bit_of
-  bit_69 a b e = rw (ne_eqb t 67 a, ne_eqb t 68 b, eq-eqb t 69 e)
-
-  pub bit_70 : (t ≡ 67 → ⊥) → (t ≡ 68 → ⊥) → (t ≡ 69 → ⊥) → 8 ≡ bit_of t
-  unfolding bit_of
-  bit_70 a b d = rw (ne_eqb t 67 a, ne_eqb t 68 b, ne_eqb t 69 d)
-
-module _ (code tag : ℕ) where
-  pub leaf_high : 16 ≤ code → T.Stray ≡ seat_leaf code tag
-  unfolding seat_leaf
-  leaf_high h = rw (le-leb 16 code h)
-
-  pub leaf_had : (b : ℕ) → code < 16 → b ≡ bit_of tag → code / b % 2 ≡ 1 → T.Stray ≡ seat_leaf code tag
-  unfolding seat_leaf has
-  leaf_had b h e q = rw (lt-leb 16 code h, ← e, eq-eqb (code / b % 2) 1 q)
-
-  pub leaf_new : (b : ℕ) → code < 16 → b ≡ bit_of tag → (code / b % 2 ≡ 1 → ⊥) → T.Seated (code + b) ≡ seat_leaf code tag
-  unfolding seat_leaf has
-  leaf_new b h e q = rw (lt-leb 16 code h, ← e, ne_eqb (code / b % 2) 1 q)
-
-  pub seat_under : code ≡ 32 → T.Stray ≡ seat_of code tag
-  unfolding seat_of
-  seat_under e = rw (eq-eqb code 32 e)
-
-  pub seat_leaf_lem : (b : Bool) (y : Seat) → (code ≡ 32 → ⊥) → b ≡ leaf tag → b ≡ true → y ≡ seat_leaf code tag → y ≡ seat_of code tag
-  unfolding seat_of
-  seat_leaf_lem b y h e q z = rw (ne_eqb code 32 h, ← e, q) z
-
-  pub seat_other : (b : Bool) → (code ≡ 32 → ⊥) → b ≡ leaf tag → b ≡ false → T.Seated code ≡ seat_of code tag
-  unfolding seat_of
-  seat_other b h e q = rw (ne_eqb code 32 h, ← e, q)

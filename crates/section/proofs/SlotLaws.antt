@@ -1,145 +1,198 @@
 -- The leaves of the gathering pass: what an entry names, a slot judged, noted and renewed. Assumes nothing.
-use Prim.Native.Nat.{ℕ, suc, ◌+◌, ◌-◌, ◌*◌, ◌≤◌, ◌<◌, min}
+use Rattle.std.specs.Prelude.{Err, None, Ok, Option, Some}
+use Prim.Native.Nat.{ℕ, suc, ◌+◌, ◌-◌, ◌≤◌, ◌<◌, min}
 use native.Mathlib.Omega.{arith}
-use mathlib.Core.Path.{◌≡◌, refl, sym, ap, ap₂, ◌∙◌, subst}
+use mathlib.Core.Path.{◌≡◌, refl, sym, ap, ap₂, ◌∙◌}
 use mathlib.Core.Logic.{◌⊎◌, inl, inr}
 use mathlib.Core.Bool.{Bool, true, false, cond}
-use mathlib.Core.List.{List, []}
-use lib.ListN.{length, set, drop}
-use borrow.Author.Tests.{lt-ltb, le-leb, lt-leb, eq-eqb, ne_eqb}
+use mathlib.Core.List.{List}
+use lib.ListN.{length, set, drop, length-set}
+use lib.Seq.{get_or-set_same, get_or-set_other}
+use borrow.Author.Tests.{lt-ltb, le-ltb, eq-eqb, ne_eqb}
+use Rattle.numbers.specs.Little.{Bytes}
 use Rattle.records.specs.Records.{size}
-use Rattle.records.specs.Reading.{ahead_of}
+use Rattle.records.specs.Reading.{ahead_of, Ahead}
 use Rattle.records.specs.declared.header.Record.{Record}
-use Rattle.records.specs.declared.header.Ahead.{Ahead}
-use Rattle.records.specs.declared.header.Ahead.TheVariants as N
 use Rattle.records.proofs.ReadingLaws.{NoRecord}
 use Rattle.text.proofs.Cases.{lt_or, eq_or}
-use lib.Dec.{ltb}
+use lib.Dec.{ltb, eqb}
 use Rattle.paragraph.specs.Stream.{records_in}
-use Rattle.paragraph.specs.Rules.{first_fault}
+use Rattle.paragraph.specs.Rules.{first_fault, Finding}
 use Rattle.paragraph.specs.Places.{parts_in}
 use Rattle.paragraph.specs.declared.children.Parts.{Parts}
-use Rattle.paragraph.specs.declared.children.Found.TheVariants as P
-use Rattle.records.specs.declared.fault.Fault.{Fault}
-use Rattle.paragraph.specs.declared.finding.Which.{Which}
-use Rattle.paragraph.specs.declared.finding.Finding.{Finding}
-use Rattle.paragraph.specs.declared.finding.Finding.TheVariants as G
-use Rattle.paragraph.proofs.StreamLaws.{Read, none_left}
-use Rattle.section.specs.Windows.{between}
-use Rattle.section.specs.Slots.{head_of, entry, found_ahead, part_found, parts_of, slot_fault, slots_fault, Ended, more, noted, fresh, noted_in, taken_in, own_fault, held_in}
+use Rattle.paragraph.proofs.StreamLaws.{Read, read_at, none_at, none_left}
+use Rattle.section.specs.Windows.{between, sooner}
+use Rattle.section.specs.Slots.{found_ahead, part_found, parts_of, at_fault, slot_fault, slots_fault, slot_at, Ended, fresh, noted, noted_in, taken_in, own_fault, held_in, held_slot, place_of_blamed, place_or, Known}
+use Rattle.section.specs.declared.slot.Blamed.{Blamed}
+use Rattle.section.specs.declared.slot.Slot.{Slot}
 use Rattle.section.proofs.FirstLaws.{between_in, between_low, between_high, between_out}
+use Rattle.paragraph.specs.declared.finding.Breach.{Breach}
 
 -- ---- what an entry names
 
--- p is the place that the entry x names
 module _ (s : List ℕ) (x : ℕ) where
-  pub part_none : x ≡ 0 → P.Nothing ≡ part_found s x
+  pub part_none : x ≡ 0 → None ≡ part_found s x
   unfolding part_found
   part_none e = rw (eq-eqb x 0 e)
-
-  none_by : (a : Ahead) → NoRecord a → P.Nothing ≡ found_ahead a
-  none_by (N.Record r) (inl z) = absurd (let y : ◌≡◌ {A = ℕ} 0 1 = z in omega arith)
-  none_by (N.Record r) (inr z) = absurd (let y : ◌≡◌ {A = ℕ} 0 2 = z in omega arith)
-  none_by (N.Refused f) n = refl
-  none_by N.End n = refl
 
   pub fault_empty : x ≡ 0 → length s ≡ slot_fault s x
   unfolding slot_fault
   fault_empty e = rw (eq-eqb x 0 e)
 
-  module _ (h : x ≡ 0 → ⊥) (p : ℕ) (is : p ≡ x - 1) where
-    pub part_lost : (a : Ahead) → a ≡ ahead_of 1023 s p → NoRecord a → P.Nothing ≡ part_found s x
-    unfolding part_found
-    part_lost a e n = rw (ne_eqb x 0 h, ← is) (none_by a n ∙ ap found_ahead e)
+  -- p is the place that the entry names
+  pub part_there : (x ≡ 0 → ⊥) → (p : ℕ) → p ≡ x - 1 → (r : Record) → ahead_of 1023 s p ≡ Some (Ok r) → Some r ≡ part_found s x
+  unfolding part_found
+  part_there h p is r e = rw (ne_eqb x 0 h, ← is) (ap found_ahead (sym e))
 
-    pub part_there : (r : Record) → ahead_of 1023 s p ≡ N.Record r → P.At r ≡ part_found s x
-    unfolding part_found
-    part_there r e = rw (ne_eqb x 0 h, ← is) (ap found_ahead (sym e))
+  -- it names a record
+  pub record Names (r : Record) : Type 0 where
+    pub some : x ≡ 0 → ⊥
+    pub read : Read s (x - 1) r
+    pub at_r : r.at.0 ≡ x - 1
 
-    -- ---- a slot judged
+  found_as : (a : Ahead) (r : Record) → Some r ≡ found_ahead a → a ≡ Some (Ok r)
+  found_as (Some (Ok q)) r e = ap (λ (k : Record). Some (Ok k)) (let z : q ≡ r = cc in z)
+  found_as (Some (Err f)) r e = absurd (let z : ◌≡◌ {A = ℕ} 0 1 = cc in omega arith)
+  found_as None r e = absurd (let z : ◌≡◌ {A = ℕ} 0 1 = cc in omega arith)
 
-    pub fault_lost : records_in (drop p s) ≡ [] → length s ≡ slot_fault s x
-    unfolding slot_fault first_fault
-    fault_lost e = rw (ne_eqb x 0 h, ← is, e)
+  pub names : (r : Record) → Bytes s → Some r ≡ part_found s x → Names r
+  unfolding part_found
+  names r bs e = go (eq_or x 0) e
+    where
+      go : (x ≡ 0) ⊎ (x ≡ 0 → ⊥) → Some r ≡ cond (eqb x 0) None (found_ahead (ahead_of 1023 s (x - 1))) → Names r
+      go (inl h) e = absurd (let q = rw (eq-eqb x 0 h) at e in let z : ◌≡◌ {A = ℕ} 0 1 = cc in omega arith)
+      go (inr h) e =
+          let d = read_at s (x - 1) bs r (found_as _ r (rw (ne_eqb x 0 h) at e)) in
+          record { some = h; read = d; at_r = ap (λ (k : Record). k.at.0) d.is }
 
-    pub fault_none : (y : Finding) → y ≡ first_fault (records_in (drop p s)) → y ≡ G.Lawful → length s ≡ slot_fault s x
+  -- or none
+  lost_as : (a : Ahead) → None ≡ found_ahead a → NoRecord a
+  lost_as (Some (Ok r)) e q w = absurd (let z : ◌≡◌ {A = ℕ} 0 1 = cc in omega arith)
+  lost_as (Some (Err f)) e q w = absurd (let z : ◌≡◌ {A = ℕ} 0 1 = cc in omega arith)
+  lost_as None e q w = absurd (let z : ◌≡◌ {A = ℕ} 0 1 = cc in omega arith)
+
+  -- ---- a slot judged
+
+  pub fault_lost : None ≡ part_found s x → length s ≡ slot_fault s x
+  unfolding part_found slot_fault first_fault
+  fault_lost e = go (eq_or x 0) e
+    where
+      go : (x ≡ 0) ⊎ (x ≡ 0 → ⊥) → None ≡ cond (eqb x 0) None (found_ahead (ahead_of 1023 s (x - 1)))
+          → length s ≡ cond (eqb x 0) (length s) (cond (at_fault (first_fault (records_in (drop (x - 1) s)))) (x - 1) (length s))
+      go (inl h) e = rw (eq-eqb x 0 h)
+      go (inr h) e = rw (ne_eqb x 0 h, none_at s (x - 1) _ refl (lost_as _ (rw (ne_eqb x 0 h) at e)))
+
+  module _ (h : x ≡ 0 → ⊥) (y : Finding) (e : y ≡ first_fault (records_in (drop (x - 1) s))) where
+    pub fault_none : y ≡ Ok tt → length s ≡ slot_fault s x
     unfolding slot_fault
-    fault_none y e q = rw (ne_eqb x 0 h, ← is, ← e, q)
+    fault_none q = rw (ne_eqb x 0 h, ← e, q)
 
-    pub fault_there : (y : Finding) → y ≡ first_fault (records_in (drop p s)) → (f : Fault) (w : Which) → y ≡ G.Breach f w → p ≡ slot_fault s x
+    pub fault_there : (b : Breach) → y ≡ Err b → x - 1 ≡ slot_fault s x
     unfolding slot_fault
-    fault_there y e f w q = rw (ne_eqb x 0 h, ← is, ← e, q)
+    fault_there b q = rw (ne_eqb x 0 h, ← e, q)
 
 -- nothing stands at the end
-pub end_lawful : (s : List ℕ) → G.Lawful ≡ first_fault (records_in (drop (length s) s))
+pub end_lawful : (s : List ℕ) → Ok tt ≡ first_fault (records_in (drop (length s) s))
 unfolding first_fault
 end_lawful s = rw (none_left s (length s) (omega arith))
 
+-- what is found at a place
+abbrev pub first_at : List ℕ → ℕ → Finding
+first_at s p = first_fault (records_in (drop p s))
+
+-- ---- of two at fault the one that stands first
+
+pub known_inside : (s : List ℕ) (j : Blamed) → Known s (Some j) → j.at.0 < length s
+unfolding first_fault
+known_inside s j k = go (lt_or j.at.0 (length s))
+  where
+    go : (j.at.0 < length s) ⊎ (length s ≤ j.at.0) → j.at.0 < length s
+    go (inl q) = q
+    go (inr q) = absurd (let e = rw (none_left s j.at.0 q) at k in let z : ◌≡◌ {A = ℕ} 0 1 = cc in omega arith)
+
+-- it stands at x, and what was found of it is known
+abbrev pub Blames : List ℕ → Option Blamed → ℕ → Type 0
+Blames s j x = (place_or (length s) j ≡ x) × Known s j
+
+sooner_by : (s : List ℕ) (a b : Option Blamed) → Known s a → Known s b
+    → Blames s (sooner place_of_blamed a b) (min (place_or (length s) a) (place_or (length s) b))
+sooner_by s None None k m = (omega arith, tt)
+sooner_by s None (Some y) k m = (omega (arith, known_inside s y m), m)
+sooner_by s (Some x) None k m = (omega (arith, known_inside s x k), k)
+sooner_by s (Some x) (Some y) k m = go (lt_or x.at.0 y.at.0)
+  where
+    go : (x.at.0 < y.at.0) ⊎ (y.at.0 ≤ x.at.0) → Blames s (cond (ltb x.at.0 y.at.0) (Some x) (Some y)) (min x.at.0 y.at.0)
+    go (inl q) = rw (lt-ltb x.at.0 y.at.0 q) (omega arith, k)
+    go (inr q) = rw (le-ltb x.at.0 y.at.0 q) (omega arith, m)
+
+pub sooner_known : (s : List ℕ) (a b : Option Blamed) {c : Option Blamed} {x y : ℕ} → Blames s a x → Blames s b y → c ≡ sooner place_of_blamed a b
+    → Blames s c (min x y)
+sooner_known s a b k m e = rw (← k.0, ← m.0, e) (sooner_by s a b k.1 m.1)
+
 -- what is noted in a slot whose paragraph has ended are its parts
-pub ended_parts : (s slots : List ℕ) (b p : ℕ) {r : Record} (y : Parts) → Ended s slots b → (head_of slots b ≡ 0 → ⊥) → p ≡ head_of slots b - 1 → Read s p r
-    → y ≡ parts_of s slots b → y ≡ parts_in (r.level + 1) r.next.0 (records_in (drop r.next.0 s))
-ended_parts s slots b p {r} y k h is d e =
+pub ended_parts : (s : List ℕ) (k : Slot) {r : Record} (y : Parts) → Ended s k → (k.header ≡ 0 → ⊥) → Read s (k.header - 1) r → y ≡ parts_of s k
+    → y ≡ parts_in (r.level + 1) r.next.0 (records_in (drop r.next.0 s))
+ended_parts s k {r} y e h d q =
     let m : suc d.rec.level ≡ r.level + 1 = omega (arith, d.level_is) in
-    let q : head_of slots b - 1 + size d.rec ≡ r.next.0 = omega (arith, d.next-is) in
-    e ∙ k d.rec (records_in (drop r.next.0 s)) h (ap (λ (i : ℕ). records_in (drop i s)) (sym is) ∙ d.records)
-    ∙ ap₂ (λ (n i : ℕ). parts_in n i (records_in (drop r.next.0 s))) m q
+    let n : k.header - 1 + size d.rec ≡ r.next.0 = omega (arith, d.next-is) in
+    q ∙ e d.rec (records_in (drop r.next.0 s)) h d.records ∙ ap₂ (λ (l i : ℕ). parts_in l i (records_in (drop r.next.0 s))) m n
 
--- ---- noted and renewed
+-- ---- a record noted
 
-module _ (tag place x : ℕ) where
-  pub more-control : tag ≡ 71 → x + 1 ≡ more tag place x
-  unfolding more
-  more-control e = rw (eq-eqb tag 71 e)
+module _ (k : Slot) (tag place : ℕ) where
+  none_of : (tag < 67) ⊎ (71 < tag) → (n : ℕ) → 67 ≤ n → n ≤ 71 → eqb tag n ≡ false
+  none_of (inl h) n a b = ne_eqb tag n (λ q. omega arith)
+  none_of (inr h) n a b = ne_eqb tag n (λ q. omega arith)
 
-  pub more_first : (tag ≡ 71 → ⊥) → x ≡ 0 → place ≡ more tag place x
-  unfolding more
-  more_first h e = rw (ne_eqb tag 71 h, eq-eqb x 0 e)
-
-  pub more_later : (tag ≡ 71 → ⊥) → (x ≡ 0 → ⊥) → x ≡ more tag place x
-  unfolding more
-  more_later h e = rw (ne_eqb tag 71 h, ne_eqb x 0 e)
-
-module _ (slots : List ℕ) (b tag place : ℕ) where
-  pub noted_empty : head_of slots b ≡ 0 → slots ≡ noted slots b tag place
+  -- it is none of the parts
+  pub noted_other : (tag < 67) ⊎ (71 < tag) → noted k tag place ≡ k
   unfolding noted
-  noted_empty e = rw (eq-eqb (head_of slots b) 0 e)
+  noted_other t = go (eq_or k.header 0)
+    where
+      go : (k.header ≡ 0) ⊎ (k.header ≡ 0 → ⊥) → noted k tag place ≡ k
+      go (inl e) = rw (eq-eqb k.header 0 e)
+      go (inr e) =
+          let z : k.controls + 0 ≡ k.controls = omega arith in
+          rw (
+            ne_eqb k.header 0 e,
+            none_of t 67 (omega arith) (omega arith),
+            none_of t 68 (omega arith) (omega arith),
+            none_of t 69 (omega arith) (omega arith),
+            none_of t 70 (omega arith) (omega arith),
+            none_of t 71 (omega arith) (omega arith),
+            z,
+          )
 
-  module _ (h : head_of slots b ≡ 0 → ⊥) where
-    pub noted_low : tag < 67 → slots ≡ noted slots b tag place
-    unfolding noted
-    noted_low q = rw (ne_eqb (head_of slots b) 0 h, lt-leb 67 tag q)
+  pub noted_header : (noted k tag place).header ≡ k.header
+  unfolding noted
+  noted_header = go (eq_or k.header 0)
+    where
+      go : (k.header ≡ 0) ⊎ (k.header ≡ 0 → ⊥) → (noted k tag place).header ≡ k.header
+      go (inl e) = rw (eq-eqb k.header 0 e)
+      go (inr e) = rw (ne_eqb k.header 0 e)
 
-    pub noted_high : 67 ≤ tag → 71 < tag → slots ≡ noted slots b tag place
-    unfolding noted
-    noted_high p q = rw (ne_eqb (head_of slots b) 0 h, le-leb 67 tag p, lt-leb tag 71 q)
-
-    pub noted_there : 67 ≤ tag → tag ≤ 71 → (k v : ℕ) → k ≡ tag - 66 → v ≡ more tag place (entry slots b k) → set slots (b + k) v ≡ noted slots b tag place
-    unfolding noted
-    noted_there p q k v e f = rw (ne_eqb (head_of slots b) 0 h, le-leb 67 tag p, le-leb tag 71 q, f, e)
+  pub noted_few : (noted k tag place).controls ≤ k.controls + 1
+  unfolding noted
+  noted_few = go (eq_or k.header 0) (eq_or tag 71)
+    where
+      go : (k.header ≡ 0) ⊎ (k.header ≡ 0 → ⊥) → (tag ≡ 71) ⊎ (tag ≡ 71 → ⊥) → (noted k tag place).controls ≤ k.controls + 1
+      go (inl e) f = rw (eq-eqb k.header 0 e) (omega arith)
+      go (inr e) (inl f) = rw (ne_eqb k.header 0 e, eq-eqb tag 71 f) (omega arith)
+      go (inr e) (inr f) = rw (ne_eqb k.header 0 e, ne_eqb tag 71 f) (omega arith)
 
 -- ---- all slots
 
-pub slots_end : (s slots : List ℕ) → length s ≡ slots_fault s slots 0
+pub slots_end : (s : List ℕ) (slots : List Slot) → length s ≡ slots_fault s slots 0
 unfolding slots_fault
 slots_end s slots = refl
 
-pub slots_next : (s slots : List ℕ) (i first x : ℕ) → first ≡ slots_fault s slots i → x ≡ slot_fault s (head_of slots (6 * i)) → min first x ≡ slots_fault s slots (i + 1)
+pub slots_next : (s : List ℕ) (slots : List Slot) (i : ℕ) → min (slots_fault s slots i) (slot_fault s (slot_at slots i).header) ≡ slots_fault s slots (i + 1)
 unfolding slots_fault
-slots_next s slots i first x e q = let z : i + 1 ≡ suc i = omega arith in rw (e, q, z)
+slots_next s slots i = let z : i + 1 ≡ suc i = omega arith in rw z
 
-pub slots_all : (s slots : List ℕ) (i first : ℕ) → first ≡ slots_fault s slots i → i ≤ 16 → (i < 16 → ⊥) → first ≡ slots_fault s slots 16
-slots_all s slots i first e h k = let z : i ≡ 16 = omega arith in e ∙ ap (slots_fault s slots) z
+-- ---- the slots of a window: that of a level, and the others
 
--- ---- in a window, whose slot for level n has the index m
-
-module _ (lo n m : ℕ) (is : m ≡ n - lo) (h : lo ≤ n) where
-  pub in_high : 16 ≤ m → between lo (lo + 16) n ≡ false
-  in_high q = between_high lo (lo + 16) n h (omega arith)
-
-  pub in_window : m < 16 → between lo (lo + 16) n ≡ true
-  in_window q = between_in lo (lo + 16) n h (omega arith)
-
-module _ (lo : ℕ) (slots : List ℕ) (tag n place : ℕ) where
+module _ (lo : ℕ) (slots : List Slot) (tag n place : ℕ) where
   pub noted_outside : between lo (lo + 16) n ≡ false → slots ≡ noted_in lo slots tag n place
   unfolding noted_in
   noted_outside e = rw e
@@ -152,40 +205,68 @@ module _ (lo : ℕ) (slots : List ℕ) (tag n place : ℕ) where
   unfolding own_fault
   own_outside s e = rw e
 
-  module _ (m : ℕ) (is : m ≡ n - lo) (e : between lo (lo + 16) n ≡ true) where
-    pub noted-inside : noted slots (6 * m) tag place ≡ noted_in lo slots tag n place
+  -- the window of the level n, or the slots as they are
+  by_window : (C : List Slot → Type 0) (new : List Slot) → C slots → (lo ≤ n → n < lo + 16 → C new) → C (cond (between lo (lo + 16) n) new slots)
+  by_window C new f g = go (lt_or n lo) (lt_or n (lo + 16))
+    where
+      go : (n < lo) ⊎ (lo ≤ n) → (n < lo + 16) ⊎ (lo + 16 ≤ n) → C (cond (between lo (lo + 16) n) new slots)
+      go (inl a) b = rw (between_low lo (lo + 16) n a) f
+      go (inr a) (inr b) = rw (between_high lo (lo + 16) n a b) f
+      go (inr a) (inl b) = rw (between_in lo (lo + 16) n a b) (g a b)
+
+  set_away : (i : ℕ) (k : Slot) → (lo + i ≡ n → ⊥) → lo ≤ n → slot_at (set slots (n - lo) k) i ≡ slot_at slots i
+  set_away i k h a = get_or-set_other slots (n - lo) i k (fresh 0) (λ z. h (omega arith))
+
+  set_here : (i : ℕ) (k : Slot) → length slots ≡ 16 → i < 16 → lo + i ≡ n → slot_at (set slots (n - lo) k) i ≡ k
+  set_here i k l q e =
+      let z : i ≡ n - lo = omega arith in
+      ap (slot_at (set slots (n - lo) k)) z ∙ get_or-set_same slots (n - lo) k (fresh 0) (omega (arith, l))
+
+  pub noted_away : (i : ℕ) → (lo + i ≡ n → ⊥) → slot_at (noted_in lo slots tag n place) i ≡ slot_at slots i
+  unfolding noted_in
+  noted_away i h = by_window (λ l. slot_at l i ≡ slot_at slots i) _ refl (λ a b. set_away i _ h a)
+
+  pub taken_away : (i : ℕ) → (lo + i ≡ n → ⊥) → slot_at (taken_in lo slots tag n place) i ≡ slot_at slots i
+  unfolding taken_in
+  taken_away i h = by_window (λ l. slot_at l i ≡ slot_at slots i) _ refl (λ a b. set_away i _ h a)
+
+  module _ (long : length slots ≡ 16) where
+    pub noted_long : length (noted_in lo slots tag n place) ≡ 16
     unfolding noted_in
-    noted-inside = rw (e, is)
+    noted_long = by_window (λ l. length l ≡ 16) _ long (λ a b. simp length-set long)
 
-    pub taken_header : tag ≡ 66 → fresh slots (6 * m) place ≡ taken_in lo slots tag n place
+    pub taken_long : length (taken_in lo slots tag n place) ≡ 16
     unfolding taken_in
-    taken_header t = rw (e, is, eq-eqb tag 66 t)
+    taken_long = by_window (λ l. length l ≡ 16) _ long (λ a b. simp length-set long)
 
-    pub taken_other : (tag ≡ 66 → ⊥) → fresh slots (6 * m) 0 ≡ taken_in lo slots tag n place
-    unfolding taken_in
-    taken_other t = rw (e, is, ne_eqb tag 66 t)
+    module _ (i : ℕ) (q : i < 16) (e : lo + i ≡ n) where
+      pub noted_here : slot_at (noted_in lo slots tag n place) i ≡ noted (slot_at slots i) tag place
+      unfolding noted_in
+      noted_here =
+          let z : n - lo ≡ i = omega arith in
+          rw (between_in lo (lo + 16) n (omega arith) (omega arith))
+          (set_here i _ long q e ∙ ap (λ (j : ℕ). noted (slot_at slots j) tag place) z)
 
-    pub own_inside : (s : List ℕ) → slot_fault s (head_of slots (6 * m)) ≡ own_fault s lo slots n
-    unfolding own_fault
-    own_inside s = rw (e, is)
-
-    pub own_ended : (s : List ℕ) → (lo ≤ n → n < lo + 16 → Ended s slots (6 * (n - lo))) → lo ≤ n → m < 16 → Ended s slots (6 * m)
-    own_ended s k h q = subst (λ (i : ℕ). Ended s slots (6 * i)) (sym is) (k h (omega arith))
+      pub taken_here : slot_at (taken_in lo slots tag n place) i ≡ fresh (cond (eqb tag 66) place 0)
+      unfolding taken_in
+      taken_here = rw (between_in lo (lo + 16) n (omega arith) (omega arith)) (set_here i _ long q e)
 
 -- ---- a paragraph stands in a slot, or none
 
-module _ (lo n : ℕ) (slots : List ℕ) where
-  pub held_low : n < lo → false ≡ held_in lo slots n
-  unfolding held_in
-  held_low h = rw (between_low lo (lo + 16) n h)
+module _ (lo n : ℕ) (slots : List Slot) where
+  pub held_some : {i : ℕ} → Some i ≡ held_slot lo slots n → (held_in lo slots n ≡ true) × (i ≡ n - lo)
+  held_some {i} e = go (held_in lo slots n) refl e
+    where
+      go : (h : Bool) → held_in lo slots n ≡ h → Some i ≡ cond h (Some (n - lo)) None → (held_in lo slots n ≡ true) × (i ≡ n - lo)
+      go true q e = (q, cc)
+      go false q e = absurd (let z : ◌≡◌ {A = ℕ} 0 1 = cc in omega arith)
 
-  pub held_high : (m : ℕ) → m ≡ n - lo → lo ≤ n → 16 ≤ m → false ≡ held_in lo slots n
-  unfolding held_in
-  held_high m is h q = rw (in_high lo n m is h q)
-
-  pub held_by : (m : ℕ) → m ≡ n - lo → lo ≤ n → m < 16 → ltb 0 (head_of slots (6 * m)) ≡ held_in lo slots n
-  unfolding held_in
-  held_by m is h q = rw (in_window lo n m is h q, is)
+  pub held_none : None ≡ held_slot lo slots n → held_in lo slots n ≡ false
+  held_none e = go (held_in lo slots n) refl e
+    where
+      go : (h : Bool) → held_in lo slots n ≡ h → None ≡ cond h (Some (n - lo)) None → held_in lo slots n ≡ false
+      go true q e = absurd (let z : ◌≡◌ {A = ℕ} 0 1 = cc in omega arith)
+      go false q e = q
 
   pub held_in_lem : held_in lo slots n ≡ true → (lo ≤ n) × (n < lo + 16)
   unfolding held_in
@@ -196,24 +277,25 @@ module _ (lo n : ℕ) (slots : List ℕ) where
       go (inr a) (inr b) = absurd (let z : false ≡ true = sym (rw (between_high lo (lo + 16) n a b)) ∙ e in let y : ◌≡◌ {A = ℕ} 0 1 = cc in omega arith)
       go (inr a) (inl b) = (a, b)
 
-  pub held_fault : (s : List ℕ) (m : ℕ) → m ≡ n - lo → held_in lo slots n ≡ true → slot_fault s (head_of slots (6 * m)) ≡ own_fault s lo slots n
-  held_fault s m is e = let k = held_in_lem e in own_inside lo slots 0 n 0 m is (between_in lo (lo + 16) n k.0 k.1) s
+  pub held_fault : (s : List ℕ) → held_in lo slots n ≡ true → slot_fault s (slot_at slots (n - lo)).header ≡ own_fault s lo slots n
+  unfolding own_fault
+  held_fault s e = let k = held_in_lem e in rw (between_in lo (lo + 16) n k.0 k.1)
 
   -- where none stands, nothing is at fault
   pub unheld : (s : List ℕ) → held_in lo slots n ≡ false → own_fault s lo slots n ≡ length s
   unfolding held_in own_fault
-  unheld s e = go (between lo (lo + 16) n) refl (eq_or (head_of slots (6 * (n - lo))) 0)
+  unheld s e = go (between lo (lo + 16) n) refl (eq_or (slot_at slots (n - lo)).header 0)
     where
-      go : (b : Bool) → between lo (lo + 16) n ≡ b → (head_of slots (6 * (n - lo)) ≡ 0) ⊎ (head_of slots (6 * (n - lo)) ≡ 0 → ⊥)
-          → cond (between lo (lo + 16) n) (slot_fault s (head_of slots (6 * (n - lo)))) (length s) ≡ length s
+      go : (b : Bool) → between lo (lo + 16) n ≡ b → ((slot_at slots (n - lo)).header ≡ 0) ⊎ ((slot_at slots (n - lo)).header ≡ 0 → ⊥)
+          → cond (between lo (lo + 16) n) (slot_fault s (slot_at slots (n - lo)).header) (length s) ≡ length s
       go false q h = rw q
-      go true q (inl h) = rw q (sym (fault_empty s (head_of slots (6 * (n - lo))) h))
+      go true q (inl h) = rw q (sym (fault_empty s (slot_at slots (n - lo)).header h))
       go true q (inr h) =
-          absurd (let z : true ≡ false = sym (rw (q, lt-ltb 0 (head_of slots (6 * (n - lo))) (omega (arith, h)))) ∙ e in let y : ◌≡◌ {A = ℕ} 0 1 = cc in omega arith)
+          absurd (let z : true ≡ false = sym (rw (q, lt-ltb 0 (slot_at slots (n - lo)).header (omega (arith, h)))) ∙ e in let y : ◌≡◌ {A = ℕ} 0 1 = cc in omega arith)
 
 -- ---- a record outside the window
 
-module _ (lo n : ℕ) (slots : List ℕ) (tag place : ℕ) (e : between lo (lo + 16 + 1) (n + 1) ≡ false) where
+module _ (lo n : ℕ) (slots : List Slot) (tag place : ℕ) (e : between lo (lo + 16 + 1) (n + 1) ≡ false) where
   outside : (between lo (lo + 16) n ≡ false) × (between lo (lo + 16) (n + 1) ≡ false)
   outside = go (between_out lo (lo + 16 + 1) (n + 1) e)
     where

@@ -1,4 +1,5 @@
 -- A pass of rule 9 over a window of levels: what is still to be judged where it has come to some place. Assumes nothing.
+use Rattle.std.specs.Prelude.{None, Some}
 use Prim.Native.Nat.{ℕ, ◌+◌, ◌≤◌, ◌<◌}
 use native.Mathlib.Omega.{arith}
 use mathlib.Core.Path.{◌≡◌, refl, sym, ap, ap₂, ◌∙◌, subst}
@@ -7,17 +8,17 @@ use mathlib.Core.Bool.{Bool, true, false, cond, ◌&&◌}
 use mathlib.Core.List.{List, [], ◌∷◌}
 use lib.ListN.{length, get_or, set, drop, length-set, get_or-eq_default}
 use lib.Seq.{get_or-set_same, get_or-set_other}
+use borrow.Author.Tests.{lt-ltb, le-ltb}
 use Rattle.records.specs.Records.{Rec, size}
-use Rattle.records.specs.Reading.{Read, onto, read_from, read_all}
+use Rattle.records.specs.Reading.{Read, offset, onto, read_from, read_all}
+use Rattle.records.specs.declared.fault.Offset.{Offset}
 use Rattle.records.specs.declared.header.Record.{Record}
 use Rattle.records.proofs.ReadingLaws.{Here}
 use Rattle.text.proofs.Cases.{lt_or, eq_or}
 use Rattle.section.specs.Parents.{misplaced, leaf}
-use Rattle.section.specs.Seats.{own_code, bit_of, seat_of}
+use Rattle.section.specs.Seats.{own_code, bit_of, seat_of, Seat}
 use Rattle.section.specs.Windows.{between, first_in}
-use Rattle.section.specs.Sweeps.{index_in, is_stray, seat_in, seated_by, seated_in, stray_in}
-use Rattle.section.specs.declared.parents.Seat.{Seat}
-use Rattle.section.specs.declared.parents.Seat.TheVariants as T
+use Rattle.section.specs.Sweeps.{index_in, is_stray, seat_in, seated_by, seated_in, stray_in, found_at, stray_at}
 use Rattle.section.proofs.SeatLaws.{Speaks, speaks_start, speaks_skip, speaks_own, Seating, strays, sits, seating, seat_free}
 use Rattle.section.proofs.FirstLaws.{between_in, between_low, between_high, between_out, first_miss, first_hit}
 
@@ -27,8 +28,8 @@ abbrev named : ℕ → Rec → List Rec → Bool
 named lo r earlier = between lo (lo + 200) r.level && misplaced r earlier
 
 data Judging (lo code : ℕ) (r : Rec) (earlier : List Rec) : Type 0 where
-  names : seat_of code r.tag ≡ T.Stray → named lo r earlier ≡ true → Judging lo code r earlier
-  passes : (c : ℕ) → seat_of code r.tag ≡ T.Seated c → named lo r earlier ≡ false
+  names : seat_of code r.tag ≡ None → named lo r earlier ≡ true → Judging lo code r earlier
+  passes : (c : ℕ) → seat_of code r.tag ≡ Some c → named lo r earlier ≡ false
       → (index_in lo r.level < 200 → Speaks c r.level (r ∷ earlier)) → Judging lo code r earlier
 
 module _ (lo : ℕ) (table : List ℕ) (r : Rec) (earlier : List Rec) (long : length table ≡ 200) where
@@ -90,25 +91,21 @@ module _ (lo : ℕ) (table : List ℕ) (r : Rec) (earlier : List Rec) (long : le
             subst (λ (m : ℕ). Speaks (get_or after (index_in lo m) 0) m (r ∷ earlier)) (sym z)
             (subst (λ (x : ℕ). Speaks x (r.level + 1) (r ∷ earlier)) (sym (after_own (subst (λ (m : ℕ). index_in lo m < 200) z a) ∙ e)) (speaks_own r earlier))
 
--- ---- by what the code's steps gave: the index, the number kept there, and the seat
-
-module _ (lo : ℕ) (table : List ℕ) (tag level i code : ℕ) (x : Seat) (f : i ≡ index_in lo level) (g : code ≡ get_or table i 0) (e : x ≡ seat_of code tag) where
-  at_seat : seat_in lo table tag level ≡ x
-  at_seat = ap (λ (c : ℕ). seat_of c tag) (ap (λ (j : ℕ). get_or table j 0) (sym f) ∙ sym g) ∙ sym e
-
-  pub sit_stray : x ≡ T.Stray → (true ≡ is_stray (seat_in lo table tag level)) × (table ≡ seated_in lo table tag level)
-  sit_stray q = let z = at_seat ∙ q in (rw z, rw z)
-
-  pub sit_seated : (c own j : ℕ) (one two : List ℕ) → x ≡ T.Seated c → one ≡ set table i c → j ≡ index_in lo (level + 1) → own ≡ own_code tag → two ≡ set one j own
-      → (false ≡ is_stray (seat_in lo table tag level)) × (two ≡ seated_in lo table tag level)
-  sit_seated c own j one two q k₁ n o k₂ = let z = at_seat ∙ q in (rw z, rw (z, k₂, k₁, f, n, o))
-
+-- the numbers keep their count
 seated_long : (x : Seat) (lo : ℕ) (table : List ℕ) (tag level : ℕ) → length (seated_by x lo table tag level) ≡ length table
-seated_long T.Stray lo table tag level = refl
-seated_long (T.Seated c) lo table tag level = simp length-set
+seated_long None lo table tag level = refl
+seated_long (Some c) lo table tag level = simp length-set
 
 pub table_long : (lo : ℕ) (table : List ℕ) (tag level : ℕ) → length (seated_in lo table tag level) ≡ length table
 table_long lo table tag level = seated_long (seat_in lo table tag level) lo table tag level
+
+-- ---- what a place says, where e is the end
+
+pub found_before : (e x : ℕ) → x < e → Some (offset x) ≡ found_at e x
+found_before e x h = rw (lt-ltb x e h)
+
+pub found_end : (e x : ℕ) → e ≤ x → None ≡ found_at e x
+found_end e x h = rw (le-ltb x e h)
 
 -- ---- where the pass stands at its loop's head
 
@@ -119,10 +116,12 @@ pub record Placing (s : List ℕ) (lo : ℕ) (table : List ℕ) (at cap : ℕ) :
   pub rest : stray_in lo (lo + 200) (length s) 0 [] (read_all s).recs
       ≡ stray_in lo (lo + 200) (length s) at earlier (read_from cap 0 (drop at s)).recs
 
-pub placing_start : (s : List ℕ) (lo : ℕ) (table : List ℕ) → length table ≡ 200 → get_or table 0 0 ≡ 16 → Placing s lo table 0 0
+pub placing_start : (s : List ℕ) (lo : ℕ) (table : List ℕ) {at cap : ℕ} → at ≡ 0 → cap ≡ 0 → length table ≡ 200 → get_or table 0 0 ≡ 16
+    → Placing s lo table at cap
 unfolding read_all
-placing_start s lo table h e =
-    record {
+placing_start s lo table p c h e =
+    rw (p, c)
+    (record {
       earlier = [];
       long = h;
       speaks =
@@ -132,7 +131,7 @@ placing_start s lo table h e =
           subst (λ (m : ℕ). Speaks (get_or table (index_in lo l) 0) m []) (sym z)
           (subst (λ (c : ℕ). Speaks c 0 []) (sym (ap (λ (i : ℕ). get_or table i 0) y ∙ e)) speaks_start);
       rest = refl;
-    }
+    })
 
 module _ {s : List ℕ} {lo : ℕ} {table : List ℕ} {at cap : ℕ} {h : Record} (k : Placing s lo table at cap) (d : Here s at cap h) where
   abbrev behind : List Rec
@@ -185,8 +184,11 @@ module _ {s : List ℕ} {lo : ℕ} {table : List ℕ} {at cap : ℕ} {h : Record
     stray_as : is_stray its_seat ≡ b
     stray_as = sym (is ∙ ap₂ (λ (t l : ℕ). is_stray (seat_in lo table t l)) d.tag_is d.level_is)
 
-    pub placing_stray : b ≡ true → at ≡ stray_in lo (lo + 200) (length s) 0 [] (read_all s).recs
-    placing_stray e = stray_by judged (stray_as ∙ e)
+    pub placing_stray : b ≡ true → (p : Offset) → p.0 ≡ at → Some p ≡ stray_at lo (lo + 200) s
+    unfolding stray_at
+    placing_stray e p q =
+        ap (λ (n : ℕ). Some (offset n)) q ∙ found_before (length s) at (omega (arith, d.left))
+        ∙ ap (found_at (length s)) (stray_by judged (stray_as ∙ e))
 
     pub placing_next : (new : List ℕ) → new ≡ seated_in lo table h.tag h.level → b ≡ false → Placing s lo new h.next.0 (h.level + 1)
     placing_next new e q = rw (e, d.next-is, d.level_is, d.tag_is) (next_by judged (stray_as ∙ q))
@@ -198,6 +200,8 @@ module _ {s : List ℕ} {lo : ℕ} {table : List ℕ} {at cap : ℕ} {h : Record
       (far_by (between_out lo (lo + 200 + 1) (d.rec.level + 1) (ap (λ (l : ℕ). between lo (lo + 200 + 1) (l + 1)) (sym d.level_is) ∙ e)))
 
 pub placing_end : {s : List ℕ} {lo : ℕ} {table : List ℕ} {at cap : ℕ} → Placing s lo table at cap → (read_from cap 0 (drop at s)).recs ≡ []
-    → length s ≡ stray_in lo (lo + 200) (length s) 0 [] (read_all s).recs
-unfolding first_in
-placing_end {s} {lo} {table} {at} {cap} k e = sym (k.rest ∙ ap (stray_in lo (lo + 200) (length s) at k.earlier) e)
+    → None ≡ stray_at lo (lo + 200) s
+unfolding first_in stray_at
+placing_end {s} {lo} {table} {at} {cap} k e =
+    found_end (length s) (length s) (omega arith)
+    ∙ ap (found_at (length s)) (sym (k.rest ∙ ap (stray_in lo (lo + 200) (length s) at k.earlier) e))

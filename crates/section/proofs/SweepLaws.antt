@@ -1,11 +1,11 @@
 -- The passes of rule 9 together: what they find is what `stray_from` names. Assumes nothing.
+use Rattle.std.specs.Prelude.{None, Some, Option}
 use Prim.Native.Nat.{ℕ, ◌+◌, min, max, ◌≤◌, ◌<◌}
 use native.Mathlib.Omega.{arith}
 use mathlib.Core.Path.{◌≡◌, refl, sym, ap, ap₂, ◌∙◌}
-use mathlib.Core.Bool.{Bool, true, false, cond}
-use mathlib.Core.Option.{some}
+use mathlib.Core.Logic.{◌⊎◌, inl, inr}
+use mathlib.Core.Bool.{Bool, true, false}
 use mathlib.Core.List.{List, [], ◌∷◌}
-use lib.Dec.{ltb}
 use lib.ListN.{length}
 use borrow.Author.Tests.{lt-ltb, le-ltb}
 use Rattle.numbers.specs.Little.{Bytes}
@@ -14,17 +14,16 @@ use Rattle.records.specs.Reading.{offset, read_all}
 use Rattle.records.specs.declared.fault.Offset.{Offset}
 use Rattle.records.proofs.ReadingLaws.{size_least, read_prefix}
 use Rattle.records.proofs.ScanLaws.{length-encode}
+use Rattle.text.proofs.Cases.{lt_or}
 use Rattle.section.specs.Parents.{misplaced, stray_from, stray_of}
-use Rattle.section.specs.Windows.{first_in, deepest_from}
-use Rattle.section.specs.Sweeps.{stray_in}
-use Rattle.section.specs.declared.parents.Stray.{Stray}
-use Rattle.section.specs.declared.parents.Stray.TheVariants as Y
+use Rattle.section.specs.Windows.{first_in, deepest_from, sooner}
+use Rattle.section.specs.Sweeps.{stray_in, found_at, stray_at}
 use Rattle.section.proofs.FirstLaws.{between_in, first_miss, first_hit, first_join}
 
 -- ---- the clauses
 
 module _ (at : ℕ) (earlier : List Rec) (r : Rec) (rs : List Rec) where
-  stray_here : misplaced r earlier ≡ true → stray_from at earlier (r ∷ rs) ≡ some at
+  stray_here : misplaced r earlier ≡ true → stray_from at earlier (r ∷ rs) ≡ Some at
   unfolding stray_from
   stray_here e = rw e
 
@@ -40,10 +39,6 @@ deepest_above m [] = omega arith
 deepest_above m (r ∷ rs) = omega (arith, deepest_above (max m r.level) rs)
 
 -- ---- where no record is as deep as hi, all levels below hi are all levels
-
--- what a place says, or the end e
-abbrev found_at : ℕ → ℕ → Stray
-found_at e x = cond (ltb x e) (Y.At (offset x)) Y.Nowhere
 
 abbrev depth : Rec → ℕ
 depth r = r.level
@@ -72,20 +67,39 @@ module _ (hi e : ℕ) where
 
 -- ---- one window behind the other
 
+sooner_found : (e x y : ℕ) → sooner (λ (p : Offset). p.0) (found_at e x) (found_at e y) ≡ found_at e (min x y)
+sooner_found e x y = go (lt_or x e) (lt_or y e) (lt_or x y)
+  where
+    go : (x < e) ⊎ (e ≤ x) → (y < e) ⊎ (e ≤ y) → (x < y) ⊎ (y ≤ x) → sooner (λ (p : Offset). p.0) (found_at e x) (found_at e y) ≡ found_at e (min x y)
+    go (inl a) (inl b) (inl c) = let m : min x y ≡ x = omega arith in rw (m, lt-ltb x e a, lt-ltb y e b, lt-ltb x y c)
+    go (inl a) (inl b) (inr c) = let m : min x y ≡ y = omega arith in rw (m, lt-ltb x e a, lt-ltb y e b, le-ltb x y c)
+    go (inl a) (inr b) c = let m : min x y ≡ x = omega arith in rw (m, lt-ltb x e a, le-ltb y e b)
+    go (inr a) (inl b) c = let m : min x y ≡ y = omega arith in rw (m, le-ltb x e a, lt-ltb y e b)
+    go (inr a) (inr b) c = rw (le-ltb x e a, le-ltb y e b, le-ltb (min x y) e (omega arith))
+
 module _ (s : List ℕ) where
-  pub sweeps_next : (place lo : ℕ) (w : Offset) → place ≡ stray_in 0 lo (length s) 0 [] (read_all s).recs
-      → w ≡ offset (stray_in lo (lo + 200) (length s) 0 [] (read_all s).recs) → min place w.0 ≡ stray_in 0 (lo + 200) (length s) 0 [] (read_all s).recs
-  sweeps_next place lo w e q =
-      ap₂ min e (ap (λ (o : Offset). o.0) q) ∙ first_join depth test 0 lo (lo + 200) (length s) 0 [] (read_all s).recs (omega arith) (omega arith)
+  pub sweeps_next : (lo : ℕ) {first w next : Option Offset} → first ≡ stray_at 0 lo s → w ≡ stray_at lo (lo + 200) s
+      → next ≡ sooner (λ (p : Offset). p.0) first w → next ≡ stray_at 0 (lo + 200) s
+  unfolding stray_at
+  sweeps_next lo e q n =
+      n
+      ∙ ap₂ (sooner (λ (p : Offset). p.0)) e q
+      ∙ sooner_found (length s) _ _
+      ∙ ap (found_at (length s)) (first_join depth test 0 lo (lo + 200) (length s) 0 [] (read_all s).recs (omega arith) (omega arith))
+
+  pub sweeps_all : (lo deepest : ℕ) {first : Option Offset} → Bytes s → first ≡ stray_at 0 lo s → deepest ≡ deepest_from 0 (read_all s).recs → deepest < lo
+      → first ≡ stray_of (stray_from 0 [] (read_all s).recs)
+  unfolding read_all stray_at
+  sweeps_all lo deepest bs e d h = e ∙ sym (found lo (length s) 0 0 [] (read_all s).recs (omega (arith, read_prefix 0 s bs)) (omega arith))
 
   module _ (place lo deepest : ℕ) (bs : Bytes s) (e : place ≡ stray_in 0 lo (length s) 0 [] (read_all s).recs) (d : deepest ≡ deepest_from 0 (read_all s).recs)
       (h : deepest < lo) where
-    all : stray_of (stray_from 0 [] (read_all s).recs) ≡ found_at (length s) place
-    unfolding read_all
-    all = found lo (length s) 0 0 [] (read_all s).recs (omega (arith, read_prefix 0 s bs)) (omega arith) ∙ ap (found_at (length s)) (sym e)
+    all : found_at (length s) place ≡ stray_of (stray_from 0 [] (read_all s).recs)
+    unfolding stray_at
+    all = sweeps_all lo deepest bs (ap (found_at (length s)) e) d h
 
-    pub sweeps_found : place < length s → Y.At (offset place) ≡ stray_of (stray_from 0 [] (read_all s).recs)
-    sweeps_found q = sym (all ∙ rw (lt-ltb place (length s) q))
+    pub sweeps_found : place < length s → Some (offset place) ≡ stray_of (stray_from 0 [] (read_all s).recs)
+    sweeps_found q = sym (rw (lt-ltb place (length s) q)) ∙ all
 
-    pub sweeps_none : length s ≤ place → Y.Nowhere ≡ stray_of (stray_from 0 [] (read_all s).recs)
-    sweeps_none q = sym (all ∙ rw (le-ltb place (length s) q))
+    pub sweeps_none : length s ≤ place → None ≡ stray_of (stray_from 0 [] (read_all s).recs)
+    sweeps_none q = sym (rw (le-ltb place (length s) q)) ∙ all

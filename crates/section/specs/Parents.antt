@@ -1,12 +1,10 @@
 -- Where records 67 to 70 may stand (document 01, 'Paragraphs'). Earlier records are given the nearest first.
-use Rattle.std.specs.Prelude.{ℕ, ◌+◌, Bool, false, cond, ◌&&◌, ◌||◌, not, List, [], ◌∷◌, ltb, leb, eqb}
-use Rattle.std.proofs.Math.Option.{Option, none, some}
+use Rattle.std.specs.Prelude.{ℕ, ◌+◌, Bool, false, cond, ◌&&◌, ◌||◌, not, List, [], ◌∷◌, ltb, leb, eqb, None, Option, Some}
 use Rattle.records.specs.Kinds as kind
 use Rattle.records.specs.Records.{Rec, size}
 use Rattle.records.specs.Parents.{parent_of}
 use Rattle.records.specs.Reading.{offset}
-use Rattle.section.specs.declared.parents.Stray.{Stray}
-use Rattle.section.specs.declared.parents.Stray.TheVariants as Y
+use Rattle.records.specs.declared.fault.Offset.{Offset}
 
 -- an earlier record with the same parent has the tag: by the level rule the children of one parent have one level, and no record of
 -- smaller level stands between them (`doubled_sibling` and `sibling_doubled` in acceptance/proofs/SiblingLaws.antt)
@@ -35,10 +33,10 @@ misplaced r earlier =
 
 -- the place of the earliest record that 9 can name; the first of the records stands at `at`
 unfoldable pub stray_from : ℕ → List Rec → List Rec → Option ℕ
-stray_from at earlier [] = none
-stray_from at earlier (r ∷ rs) = cond (misplaced r earlier) (some at) (stray_from (at + size r) (r ∷ earlier) rs)
+stray_from at earlier [] = None
+stray_from at earlier (r ∷ rs) = cond (misplaced r earlier) (Some at) (stray_from (at + size r) (r ∷ earlier) rs)
 
 -- the same as the pass of rule 9 answers it
-abbrev pub stray_of : Option ℕ → Stray
-stray_of none = Y.Nowhere
-stray_of (some p) = Y.At (offset p)
+abbrev pub stray_of : Option ℕ → Option Offset
+stray_of None = None
+stray_of (Some p) = Some (offset p)

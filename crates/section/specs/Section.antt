@@ -1,38 +1,34 @@
 -- The rules of a section over its records, and what check and the section read answer (document 01, 'Order').
-use Rattle.std.specs.Prelude.{ℕ, ◌+◌, cond, List, [], ◌∷◌, length}
-use Rattle.std.proofs.Math.Option.{Option, none, some}
+use Rattle.std.specs.Prelude.{ℕ, ◌+◌, cond, List, [], ◌∷◌, length, Err, None, Ok, Option, Some}
 use Rattle.records.specs.Records.{Rec, size}
-use Rattle.records.specs.Answers.{refusal}
+use Rattle.records.specs.Answers.{refusal, Answer}
 use Rattle.records.specs.Reading.{read_all}
 use Rattle.records.specs.Table.{read_answer, after_read}
 use Rattle.records.specs.declared.fault.Fault.TheVariants as F
 use Rattle.records.specs.declared.fault.Refusal.{Refusal}
-use Rattle.records.specs.declared.fault.Answer.{Answer}
-use Rattle.paragraph.specs.Rules.{first_fault}
+use Rattle.paragraph.specs.Rules.{first_fault, Finding}
 use Rattle.paragraph.specs.Places.{place_of}
-use Rattle.paragraph.specs.declared.finding.Finding.{Finding}
-use Rattle.paragraph.specs.declared.finding.Finding.TheVariants as G
 use Rattle.section.specs.Parents.{header, stray_from}
 
 -- the refusal that a finding makes of the paragraph at `at`, and else what follows
 abbrev pub refusal_or : ℕ → List Rec → Finding → Option Refusal → Option Refusal
-refusal_or at rs G.Lawful rest = rest
-refusal_or at rs (G.Breach f w) rest = some (refusal f (place_of at rs w))
+refusal_or at rs (Ok tt) rest = rest
+refusal_or at rs (Err b) rest = Some (refusal b.fault (place_of at rs b.which))
 
 -- the finding of the first of some records, by its tag
 abbrev pub finding_of : ℕ → List Rec → Finding
-finding_of tag rs = cond (header tag) (first_fault rs) G.Lawful
+finding_of tag rs = cond (header tag) (first_fault rs) (Ok tt)
 
 -- the paragraphs in stream order, where the first of the records stands at `at`
 unfoldable pub paragraphs_fault : ℕ → List Rec → Option Refusal
-paragraphs_fault at [] = none
+paragraphs_fault at [] = None
 paragraphs_fault at (r ∷ rs) =
     refusal_or at (r ∷ rs) (finding_of r.tag (r ∷ rs)) (paragraphs_fault (at + size r) rs)
 
 -- 9 at a place, and else what follows
 abbrev pub stray_or : Option ℕ → Option Refusal → Option Refusal
-stray_or none rest = rest
-stray_or (some p) rest = some (refusal F.Misplaced p)
+stray_or None rest = rest
+stray_or (Some p) rest = Some (refusal F.Misplaced p)
 
 -- 9 over all records, then each paragraph. Nothing is at fault exactly where document 01's sentences hold: `obeys_exactly` in
 -- acceptance/proofs/SectionReader.antt

@@ -5,7 +5,8 @@ mod gather;
 mod opening;
 mod parents;
 mod rules;
+mod slot;
+mod whole;
 mod windows;
 
-pub use parents::{Seat, Stray};
 pub use rules::{answer_within, check};

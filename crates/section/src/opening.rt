@@ -3,58 +3,43 @@
 ghost use Rattle.section.specs.Sweeps.{Opens};
 
 use crate::parents::{LEVELS, strays};
-use crate::windows::deeper;
-use numbers::lesser;
-use records::{Ahead, Fault, Offset, Refusal, record_at};
+use crate::whole::Whole;
+use records::{Fault, LIMIT, Offset, Refusal, records_of, refused};
 
-// What the first pass finds: a refusal of the reading; or how many records there are, the earliest stray of the first window, or the stream's length,
-// and the deepest level.
+// What the first pass finds, where the reading ends well: how many records there are, the earliest stray of the first window, and the stream
+// with its deepest level.
 #[derive(Clone, Copy)]
-pub enum Opened {
-    Refused(Refusal),
-    Read {
-        n: usize,
-        stray: Offset,
-        deepest: u32,
-    },
+pub struct Opening<'a> {
+    pub n: usize,
+    pub stray: Option<Offset>,
+    pub whole: Whole<'a>,
 }
 
-pub fn first_pass(s: &[u8]) -> Opened
+// The same, or a refusal of the reading.
+pub type Opened<'a> = Result<Opening<'a>, Refusal>;
+
+// Every header in one pass; a refusal of the reading comes before any stray.
+pub fn first_pass<'a>(s: &'a [u8]) -> Opened<'a>
     ensures { Opens s.now result }
 {
-    if 16777216 < s.len() {
-        return Opened::Refused(Refusal {
-            fault: Fault::StreamTooLong,
-            place: Offset(0),
-        });
+    if LIMIT < s.len() {
+        return refused(Fault::StreamTooLong, Offset(0));
     }
     let mut table = [16u8; LEVELS as usize];
-    let mut at = Offset(0);
-    let mut cap: u32 = 0;
-    let mut n: usize = 0;
-    let mut stray = s.len();
-    let mut deepest: u32 = 0;
-    loop {
-        match record_at(s, at, cap) {
-            Ahead::Record(r) => {
-                if strays(&mut table, 0, r.tag, r.level) {
-                    stray = lesser(stray, at.0);
-                }
-                deepest = deeper(deepest, r.level);
-                at = r.next;
-                cap = r.level + 1;
-                n = n + 1;
-            }
-            Ahead::Refused(f) => {
-                return Opened::Refused(f);
-            }
-            Ahead::End => {
-                return Opened::Read {
-                    n,
-                    stray: Offset(stray),
-                    deepest,
-                };
-            }
+    let mut n = 0;
+    let mut stray = None;
+    let mut deepest = 0u32;
+    for item in records_of(s, Offset(0), 0) {
+        let r = item?;
+        if strays(&mut table, 0, r.tag, r.level) {
+            stray = stray.or(Some(r.at));
         }
+        deepest = deepest.max(r.level);
+        n += 1;
     }
+    Ok(Opening {
+        n,
+        stray,
+        whole: Whole { stream: s, deepest },
+    })
 }

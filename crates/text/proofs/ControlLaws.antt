@@ -1,9 +1,9 @@
 -- The step at the next unit below 32. Assumes nothing.
+use Rattle.std.specs.Prelude.{None, Option, Some}
 use Prim.Native.Nat.{ℕ, ◌+◌, ◌≤◌, ◌<◌}
 use native.Mathlib.Omega.{arith}
 use mathlib.Core.Path.{◌≡◌, refl, sym, ap, ◌∙◌}
 use mathlib.Core.Logic.{◌↔◌, inl, inr}
-use mathlib.Core.Option.{Option, none, some}
 use mathlib.Core.List.{List, [], ◌∷◌, ◌++◌}
 use lib.ListN.{length, get_or, take, drop, length-drop}
 use Rattle.text.specs.Asked.{control}
@@ -59,7 +59,7 @@ module _ (us : List ℕ) (p : ℕ) where
       let z : a.0 ≡ p + run (drop p us) = ap (λ (a : Position). a.0) t.0 in
       reached a.0 s c.at.0 z (rw (← z) at t.1)
 
-  pub control_broken : (q : Position) → control_at us p ≡ Broken q → fault_at us p ≡ some q.0
+  pub control_broken : (q : Position) → control_at us p ≡ Broken q → fault_at us p ≡ Some q.0
   unfolding control_at
   control_broken q e = elim (lt_or (p + run (drop p us)) (length us)) [
     | inl h ↦ run-fault us p h ∙ step_broken us (p + run (drop p us)) q e
@@ -67,8 +67,8 @@ module _ (us : List ℕ) (p : ℕ) where
   ]
 
   -- a text that breaks no rule from p on has none broken at the control either
-  pub control_sound : (q : Position) → fault_at us p ≡ none → control_at us p ≡ Broken q → ⊥
-  control_sound q n e = let x : ◌≡◌ {A = Option ℕ} none (some q.0) = sym n ∙ control_broken q e in let z : ◌≡◌ {A = ℕ} 0 1 = cc in omega arith
+  pub control_sound : (q : Position) → fault_at us p ≡ None → control_at us p ≡ Broken q → ⊥
+  control_sound q n e = let x : ◌≡◌ {A = Option ℕ} None (Some q.0) = sym n ∙ control_broken q e in let z : ◌≡◌ {A = ℕ} 0 1 = cc in omega arith
 
   pub control_end : (control_at us p ≡ End) ↔ AllOrdinary (drop p us)
   unfolding control_at
@@ -83,16 +83,16 @@ module _ (us : List ℕ) (p : ℕ) where
   pub control_rest : control_at us p ≡ End → tokens_at us p ≡ singles p (drop p us)
   control_rest e = walk_ordinary p (drop p us) (control_end.0 e)
 
-  pub control_lacking : control_at us p ≡ End → p < length us → fault_at us p ≡ some (length us)
+  pub control_lacking : control_at us p ≡ End → p < length us → fault_at us p ≡ Some (length us)
   control_lacking e h = run_lacking us p h (control_end.0 e)
 
-  pub control_over : control_at us p ≡ End → fault_at us p ≡ none → length us ≤ p
+  pub control_over : control_at us p ≡ End → fault_at us p ≡ None → length us ≤ p
   control_over e n = elim (lt_or p (length us)) [
-    | inl h ↦ absurd (let x : ◌≡◌ {A = Option ℕ} none (some (length us)) = sym n ∙ control_lacking e h in let z : ◌≡◌ {A = ℕ} 0 1 = cc in omega arith)
+    | inl h ↦ absurd (let x : ◌≡◌ {A = Option ℕ} None (Some (length us)) = sym n ∙ control_lacking e h in let z : ◌≡◌ {A = ℕ} 0 1 = cc in omega arith)
     | inr h ↦ h
   ]
 
-  pub control_ended : control_at us p ≡ End → fault_at us p ≡ none → Ended us p
+  pub control_ended : control_at us p ≡ End → fault_at us p ≡ None → Ended us p
   control_ended e n = past_ended us p (control_over e n)
 
 -- a step that met no control, whichever way: as `let .. else` leaves it
@@ -105,7 +105,7 @@ not_control (Stands a w k) n = absurd (n a w k refl)
 not_control (Broken q) n = inl refl
 not_control End n = inr refl
 
-pub none_stands : (us : List ℕ) (p : ℕ) (x : Step) → x ≡ control_at us p → NoControl x → fault_at us p ≡ none → Ended us p
+pub none_stands : (us : List ℕ) (p : ℕ) (x : Step) → x ≡ control_at us p → NoControl x → fault_at us p ≡ None → Ended us p
 none_stands us p (Stands a s c) e (inl z) n = absurd (let y : ◌≡◌ {A = ℕ} 0 1 = z in omega arith)
 none_stands us p (Stands a s c) e (inr z) n = absurd (let y : ◌≡◌ {A = ℕ} 0 2 = z in omega arith)
 none_stands us p (Broken q) e w n = absurd (control_sound us p q n (sym e))

@@ -1,10 +1,10 @@
 -- The unit that is named is the first wrong one (document 02, A12): what stands before it is the beginning of a sound text. Assumes nothing.
+use Rattle.std.specs.Prelude.{None, Option, Some}
 use Prim.Native.Nat.{ℕ, zero, suc, ◌+◌, ◌-◌, ◌≤◌, ◌<◌}
 use native.Mathlib.Omega.{arith}
 use mathlib.Core.Path.{◌≡◌, refl, sym, ap, ◌∙◌, subst}
 use mathlib.Core.Logic.{◌⊎◌, inl, inr}
 use mathlib.Core.Bool.{Bool, true, false, cond, ◌&&◌, not}
-use mathlib.Core.Option.{Option, none, some}
 use mathlib.Core.List.{List, [], ◌∷◌, ◌++◌, append_assoc}
 use lib.Dec.{ltb, eqb}
 use lib.ListN.{length, get_or, take, drop, length-drop, drop_of_length-le}
@@ -20,12 +20,12 @@ use Rattle.text.proofs.WalkLaws.{end_of, front_stands, front_left, width_pos, pa
 -- ---- a fault is not before the position where the walk stands
 
 abbrev From : ℕ → Option ℕ → Type 0
-From p none = Unit {0}
-From p (some q) = p ≤ q
+From p None = Unit {0}
+From p (Some q) = p ≤ q
 
 from_next : (p : ℕ) (o : Option ℕ) → From (p + 1) o → From p o
-from_next p none h = tt
-from_next p (some q) h = omega arith
+from_next p None h = tt
+from_next p (Some q) h = omega arith
 
 fault_from : (p k : ℕ) (us : List ℕ) → From p (fault p k us)
 unfolding fault
@@ -98,7 +98,7 @@ module _ (k : Sight) (d : ℕ) where
 
 -- ---- nothing is wrong before it
 
-some_is : (p a b : ℕ) → some (p + a) ≡ some (p + b) → a ≡ b
+some_is : (p a b : ℕ) → Some (p + a) ≡ Some (p + b) → a ≡ b
 some_is p a b e = let z : p + a ≡ p + b = cc in omega arith
 
 opens_none : Opens []
@@ -123,18 +123,18 @@ opens_broken u us d (unclosed w c e) = rw e (opens_unclosed u us w c)
 opens_broken u us d (lacking z t w c e) = rw e (record { more = 13 ∷ []; sound = token_opens u us z t (13 ∷ []) w c ending })
 
 -- behind a token that stands, where the rest goes on
-module _ (p u : ℕ) (us : List ℕ) (q : ℕ) (e : fault p 0 (u ∷ us) ≡ some (p + q))
-    (rest : (m r : ℕ) → 0 < m → fault (p + m) 0 (drop m (u ∷ us)) ≡ some (p + m + r) → Opens (take r (drop m (u ∷ us)))) where
+module _ (p u : ℕ) (us : List ℕ) (q : ℕ) (e : fault p 0 (u ∷ us) ≡ Some (p + q))
+    (rest : (m r : ℕ) → 0 < m → fault (p + m) 0 (drop m (u ∷ us)) ≡ Some (p + m + r) → Opens (take r (drop m (u ∷ us)))) where
   abbrev w : ℕ
   w = width (what u)
 
   -- the fault is behind the token
   opens_behind : (u ≡ 0 → ⊥) → (u ≡ 13 → ⊥) → w ≤ suc (length us) → get_or (u ∷ us) (w - 1) 0 ≡ u
-      → fault (p + w) 0 (drop w (u ∷ us)) ≡ some (p + q) → Opens (take q (u ∷ us))
+      → fault (p + w) 0 (drop w (u ∷ us)) ≡ Some (p + q) → Opens (take q (u ∷ us))
   opens_behind z t whole closed x =
       let low : p + w ≤ p + q = subst (From (p + w)) x (fault_from (p + w) 0 (drop w (u ∷ us))) in
       let at : p + q ≡ p + w + (q - w) = omega arith in
-      let o = rest w (q - w) (width_pos (what u)) (x ∙ ap some at) in
+      let o = rest w (q - w) (width_pos (what u)) (x ∙ ap Some at) in
       let two : q ≡ w + (q - w) = omega arith in
       let parts : take q (u ∷ us) ≡ take w (u ∷ us) ++ take (q - w) (drop w (u ∷ us)) = ap (λ (i : ℕ). take i (u ∷ us)) two ∙ take-add w (q - w) (u ∷ us) in
       rw parts
@@ -151,14 +151,14 @@ module _ (p u : ℕ) (us : List ℕ) (q : ℕ) (e : fault p 0 (u ∷ us) ≡ som
   opens_stands s f =
       let k = front_stands u us s f in
       let same : width s ≡ w = ap width k.1 in
-      let x : fault (p + w) 0 (drop w (u ∷ us)) ≡ some (p + q) = rw same at (sym (passed p (u ∷ us) s f).fault ∙ e) in
+      let x : fault (p + w) 0 (drop w (u ∷ us)) ≡ Some (p + q) = rw same at (sym (passed p (u ∷ us) s f).fault ∙ e) in
       by k.0.known k.0.whole k.0.closed k.0.ends x
     where
       by : (u ≡ 0 → ⊥) → w ≤ suc (length us) → get_or (u ∷ us) (w - 1) 0 ≡ u → ((u ≡ 13) × (suc (length us) ≡ w)) ⊎ ((u ≡ 13 → ⊥) × (w < suc (length us)))
-          → fault (p + w) 0 (drop w (u ∷ us)) ≡ some (p + q) → Opens (take q (u ∷ us))
+          → fault (p + w) 0 (drop w (u ∷ us)) ≡ Some (p + q) → Opens (take q (u ∷ us))
       by z whole closed (inl l) x =
           let h : length (u ∷ us) ≤ w = omega (arith, l.1) in
-          let n : fault (p + w) 0 (drop w (u ∷ us)) ≡ none = ap (fault (p + w) 0) (drop_of_length-le (u ∷ us) h) in
+          let n : fault (p + w) 0 (drop w (u ∷ us)) ≡ None = ap (fault (p + w) 0) (drop_of_length-le (u ∷ us) h) in
           absurd (let y : ◌≡◌ {A = ℕ} 0 1 = cc in omega arith)
       by z whole closed (inr t) x = opens_behind z t.0 whole closed x
 
@@ -170,25 +170,25 @@ module _ (p u : ℕ) (us : List ℕ) (q : ℕ) (e : fault p 0 (u ∷ us) ≡ som
       opens_broken u us q (ways (sight u us) q (rw same at f))
   opens_front over f = absurd (front_left u us f)
 
-opens_from : (p : ℕ) (us : List ℕ) (q : ℕ) → fault p 0 us ≡ some (p + q)
-    → ((m r : ℕ) → 0 < m → fault (p + m) 0 (drop m us) ≡ some (p + m + r) → Opens (take r (drop m us))) → Opens (take q us)
+opens_from : (p : ℕ) (us : List ℕ) (q : ℕ) → fault p 0 us ≡ Some (p + q)
+    → ((m r : ℕ) → 0 < m → fault (p + m) 0 (drop m us) ≡ Some (p + m + r) → Opens (take r (drop m us))) → Opens (take q us)
 unfolding fault
 opens_from p [] q e rest = absurd (let z : ◌≡◌ {A = ℕ} 0 1 = cc in omega arith)
 opens_from p (u ∷ us) q e rest = opens_front p u us q e rest (front (u ∷ us)) refl
 
-no_fault : (p q : ℕ) (us : List ℕ) → length us ≤ 0 → fault p 0 us ≡ some (p + q) → ⊥
+no_fault : (p q : ℕ) (us : List ℕ) → length us ≤ 0 → fault p 0 us ≡ Some (p + q) → ⊥
 unfolding fault
 no_fault p q [] h e = let z : ◌≡◌ {A = ℕ} 0 1 = cc in omega arith
 no_fault p q (u ∷ us) h e = omega arith
 
 -- n bounds the length
-first_within : (n p : ℕ) (us : List ℕ) → length us ≤ n → (q : ℕ) → fault p 0 us ≡ some (p + q) → Opens (take q us)
+first_within : (n p : ℕ) (us : List ℕ) → length us ≤ n → (q : ℕ) → fault p 0 us ≡ Some (p + q) → Opens (take q us)
 first_within zero p us h q e = absurd (no_fault p q us h e)
 first_within (suc n) p us h q e =
     opens_from p us q e (λ m r l x. first_within n (p + m) (drop m us) (omega (arith, length-drop m us, l, h)) r x)
 
 -- the theorem
-pub right_before : (us : List ℕ) (q : ℕ) → text_fault us ≡ some q → Opens (take q us)
+pub right_before : (us : List ℕ) (q : ℕ) → text_fault us ≡ Some q → Opens (take q us)
 unfolding text_fault
 right_before [] q e = rw (take-nil {A = ℕ} q) opens_none
 right_before (u ∷ us) q e = let z : 0 + q ≡ q = omega arith in first_within (suc (length us)) 0 (u ∷ us) (omega arith) q (rw z e)

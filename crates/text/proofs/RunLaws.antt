@@ -1,20 +1,21 @@
 -- A run of ordinary units passed at once: the units one by one, and the fault behind it. Assumes nothing.
+use Rattle.std.specs.Prelude.{Some}
 use Prim.Native.Nat.{ℕ, zero, suc, ◌+◌, ◌-◌, ◌≤◌, ◌<◌}
 use native.Mathlib.Omega.{arith}
 use mathlib.Core.Path.{◌≡◌, refl, sym, ap, ◌∙◌}
 use mathlib.Core.Logic.{inl, inr, ◌↔◌}
 use mathlib.Core.Bool.{Bool, true, false, ◌&&◌}
-use mathlib.Core.Option.{some}
 use mathlib.Core.List.{List, [], ◌∷◌, ◌++◌}
 use lib.Dec.{leb}
 use lib.ListN.{length, get_or, take, drop, length-drop, length-append, drop_of_length-le, take-append-drop}
 use lib.Seq.{drop-cons, drop-drop, get_or-drop, length-take-le, take_all}
-use borrow.Author.Tests.{lt-ltb, le-ltb, le-leb, leb-true, eq-eqb, ne_eqb}
+use borrow.Author.Tests.{lt-ltb, le-ltb, leb-true, eq-eqb, ne_eqb}
 use Rattle.text.specs.Asked.{width}
 use Rattle.text.specs.Walk.{stands, broken, takes, front_of, sight, front, walk, tokens_at, AllOrdinary, fault, fault_at, run, extended_in}
 use Rattle.text.specs.Mirror.{four_ordinary}
 use Rattle.text.specs.declared.Standing.TheVariants.{Ordinary}
 use Rattle.text.proofs.Cases.{lt_or}
+use Rattle.text.proofs.UnitLaws.{length-units}
 use Rattle.text.proofs.TableLaws.{what_ordinary}
 use Rattle.text.proofs.WalkLaws.{stands_front, fault-front, passed}
 use Rattle.text.proofs.PartLaws.{singles, walk-append, walk_ordinary, left_ordinary, extended_append, extended_singles}
@@ -79,7 +80,7 @@ lone_front : (u : ℕ) → 32 ≤ u → front (u ∷ []) ≡ broken 1
 unfolding front front_of
 lone_front u h = rw (what_ordinary u h, ne_eqb u 0 (λ e. omega (arith, e, h)), eq-eqb u u refl, ne_eqb u 13 (λ e. omega (arith, e, h)))
 
-fault_lacking : (p : ℕ) (x : List ℕ) → AllOrdinary x → 0 < length x → fault p 0 x ≡ some (p + length x)
+fault_lacking : (p : ℕ) (x : List ℕ) → AllOrdinary x → 0 < length x → fault p 0 x ≡ Some (p + length x)
 fault_lacking p [] o l = absurd (omega arith)
 fault_lacking p (u ∷ []) o l = fault-front p 1 (u ∷ []) (lone_front u o.0)
 fault_lacking p (u ∷ v ∷ x) o l =
@@ -125,10 +126,10 @@ module _ (us : List ℕ) (p : ℕ) where
         ∙ rw passes
 
   -- a run up to the end lacks its 13
-  pub run_lacking : p < length us → AllOrdinary (drop p us) → fault_at us p ≡ some (length us)
+  pub run_lacking : p < length us → AllOrdinary (drop p us) → fault_at us p ≡ Some (length us)
   run_lacking h o =
       let e : p + length (drop p us) ≡ length us = simp length-drop (omega arith) in
-      fault_lacking p (drop p us) o (simp length-drop (omega arith)) ∙ ap some e
+      fault_lacking p (drop p us) o (simp length-drop (omega arith)) ∙ ap Some e
 
 -- ---- by the steps of the code
 
@@ -146,16 +147,16 @@ run_over us p h = rw (drop_of_length-le us h) (omega arith)
 
 -- ---- four units at once
 
-pub record Four (us : List ℕ) (p : ℕ) : Type 0 where
-  pub fits : p + 4 ≤ length us
-  pub first : 32 ≤ get_or us p 0
-  pub unit : (i : ℕ) → i < 4 → 32 ≤ get_or us (p + i) 0
+record Four (us : List ℕ) (p : ℕ) : Type 0 where
+  fits : p + 4 ≤ length us
+  first : 32 ≤ get_or us p 0
+  unit : (i : ℕ) → i < 4 → 32 ≤ get_or us (p + i) 0
 
 pub both : (a b : Bool) → (a && b) ≡ true → (a ≡ true) × (b ≡ true)
 both true b e = (refl, e)
 both false b e = absurd (let z : ◌≡◌ {A = ℕ} 0 1 = cc in omega arith)
 
-pub four_all : (us : List ℕ) (p : ℕ) → four_ordinary us p ≡ true → Four us p
+four_all : (us : List ℕ) (p : ℕ) → four_ordinary us p ≡ true → Four us p
 unfolding four_ordinary
 four_all us p e =
     let a = both (leb (p + 4) (length us)) _ e in
@@ -175,25 +176,18 @@ four_all us p e =
     each a b c d (suc (suc (suc zero))) h = d
     each a b c d (suc (suc (suc (suc i)))) h = absurd (omega arith)
 
-pub four_not : (us : List ℕ) (p : ℕ) → (Four us p → ⊥) → false ≡ four_ordinary us p
-four_not us p never = go (four_ordinary us p) refl
-  where
-    go : (t : Bool) → four_ordinary us p ≡ t → false ≡ t
-    go true e = absurd (never (four_all us p e))
-    go false e = refl
-
-pub four_last : (us : List ℕ) (p : ℕ) → p + 4 ≤ length us → 32 ≤ get_or us p 0 → 32 ≤ get_or us (p + 1) 0 → 32 ≤ get_or us (p + 2) 0
-    → leb 32 (get_or us (p + 3) 0) ≡ four_ordinary us p
-unfolding four_ordinary
-four_last us p fits a b c =
-    rw (le-leb (p + 4) (length us) fits, le-leb 32 (get_or us p 0) a, le-leb 32 (get_or us (p + 1) 0) b, le-leb 32 (get_or us (p + 2) 0) c)
-
 -- they are passed
-pub run_four : (us : List ℕ) (p : ℕ) → Four us p → p + run (drop p us) ≡ p + 4 + run (drop (p + 4) us)
-run_four us p f = go 4 (omega arith)
+pub run_four : (us : List ℕ) (p : ℕ) → four_ordinary us p ≡ true → p + run (drop p us) ≡ p + 4 + run (drop (p + 4) us)
+run_four us p e = go 4 (omega arith)
   where
+    f : Four us p
+    f = four_all us p e
+
     go : (k : ℕ) → k ≤ 4 → p + run (drop p us) ≡ p + k + run (drop (p + k) us)
     go zero h = let e : p + 0 ≡ p = omega arith in rw e
     go (suc k) h =
         let e : p + k + 1 ≡ p + suc k = omega arith in
         go k (omega arith) ∙ run_more us (p + k) (omega (arith, f.fits)) (f.unit k (omega arith)) ∙ ap (λ (i : ℕ). i + run (drop i us)) e
+
+-- for attributes, over as many units as half the bytes
+pub ruleset run_steps = (run_four, run_stop, length-units)

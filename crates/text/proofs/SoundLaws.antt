@@ -1,9 +1,9 @@
 -- A text has no fault exactly when it is sound. Assumes nothing.
+use Rattle.std.specs.Prelude.{None}
 use Prim.Native.Nat.{ℕ, zero, suc, ◌+◌, ◌-◌, ◌<◌}
 use native.Mathlib.Omega.{arith}
 use mathlib.Core.Path.{◌≡◌, refl, sym, ap, ◌∙◌}
 use mathlib.Core.Logic.{◌⊎◌, inl, inr, ◌↔◌}
-use mathlib.Core.Option.{none}
 use mathlib.Core.List.{List, [], ◌∷◌, ◌++◌}
 use lib.ListN.{length, get_or, take, drop, length-drop}
 use lib.Seq.{split_at, length-take-le, drop_at, drop-drop, get_or_at}
@@ -79,17 +79,17 @@ begins_stands u us b =
     let l : width (what u) < suc (length us) = omega (arith, simp length-drop at (sound_some b.rest)) in
     record { known = b.not_0; whole = omega arith; closed = b.closed; ends = inr (b.not_13, l) }
 
-last_fault : (p u : ℕ) (us : List ℕ) → u ≡ 13 → us ≡ [] → fault p 0 (u ∷ us) ≡ none
+last_fault : (p u : ℕ) (us : List ℕ) → u ≡ 13 → us ≡ [] → fault p 0 (u ∷ us) ≡ None
 unfolding fault front front_of what class_of among
 last_fault p u us e z = rw (e, z)
 
-sound_fault : (p k : ℕ) (us : List ℕ) → SoundText (drop k us) → fault p k us ≡ none
+sound_fault : (p k : ℕ) (us : List ℕ) → SoundText (drop k us) → fault p k us ≡ None
 unfolding fault front
 sound_fault p k [] s = refl
 sound_fault p zero (u ∷ us) s = go (unrolled u us s) (sound_fault (p + 1) (width (what u) - 1) us)
   where
     go : ((u ≡ 13) × (us ≡ [])) ⊎ Begins u us
-        → (SoundText (drop (width (what u) - 1) us) → fault (p + 1) (width (what u) - 1) us ≡ none) → fault p 0 (u ∷ us) ≡ none
+        → (SoundText (drop (width (what u) - 1) us) → fault (p + 1) (width (what u) - 1) us ≡ None) → fault p 0 (u ∷ us) ≡ None
     go (inl e) on = last_fault p u us e.0 e.1
     go (inr b) on =
         rw (stands_front u us (begins_stands u us b)) (on (rw (drop-behind (width (what u)) u us (width_pos (what u))) at b.rest))
@@ -113,20 +113,20 @@ stands_sound u us s on = go s.ends
           rest = rw (drop-behind (width (what u)) u us (width_pos (what u))) (on (omega (arith, width_pos (what u), e.1)));
         })
 
-fault_sound : (p k : ℕ) (us : List ℕ) → fault p k us ≡ none → k < length us → SoundText (drop k us)
+fault_sound : (p k : ℕ) (us : List ℕ) → fault p k us ≡ None → k < length us → SoundText (drop k us)
 unfolding fault front
 fault_sound p k [] e h = absurd (omega arith)
 fault_sound p zero (u ∷ us) e h = go (front (u ∷ us)) refl e (fault_sound (p + 1) (width (what u) - 1) us)
   where
-    go : (f : Front) → front (u ∷ us) ≡ f → fault_or p f (fault (p + 1) (width (what u) - 1) us) ≡ none
-        → (fault (p + 1) (width (what u) - 1) us ≡ none → width (what u) - 1 < length us → SoundText (drop (width (what u) - 1) us)) → SoundText (u ∷ us)
+    go : (f : Front) → front (u ∷ us) ≡ f → fault_or p f (fault (p + 1) (width (what u) - 1) us) ≡ None
+        → (fault (p + 1) (width (what u) - 1) us ≡ None → width (what u) - 1 < length us → SoundText (drop (width (what u) - 1) us)) → SoundText (u ∷ us)
     go (stands s) q e on = stands_sound u us (front_stands u us s q).0 (on e)
     go (broken d) q e on = absurd (let z : ◌≡◌ {A = ℕ} 0 1 = cc in omega arith)
     go over q e on = absurd (front_left u us q)
 fault_sound p (suc k) (u ∷ us) e h = fault_sound (p + 1) k us e (omega arith)
 
 -- the theorem
-pub sound_exactly : (us : List ℕ) → (text_fault us ≡ none) ↔ SoundText us
+pub sound_exactly : (us : List ℕ) → (text_fault us ≡ None) ↔ SoundText us
 unfolding text_fault
 sound_exactly [] = (λ e. absurd (let z : ◌≡◌ {A = ℕ} 0 1 = cc in omega arith), λ s. absurd (omega (arith, sound_some s)))
 sound_exactly (u ∷ us) = (λ e. fault_sound 0 0 (u ∷ us) e (omega arith), sound_fault 0 0 (u ∷ us))

@@ -1,10 +1,10 @@
 -- The walk's clauses: what stands at a position, and the walk behind it. Assumes nothing.
+use Rattle.std.specs.Prelude.{None, Option, Some}
 use Prim.Native.Nat.{ℕ, zero, suc, ◌+◌, ◌-◌, ◌≤◌, ◌<◌}
 use native.Mathlib.Omega.{arith}
 use mathlib.Core.Path.{◌≡◌, refl, sym, ap, ◌∙◌}
 use mathlib.Core.Logic.{◌⊎◌, inl, inr}
 use mathlib.Core.Bool.{Bool, true, false, cond, ◌&&◌, not}
-use mathlib.Core.Option.{Option, none, some}
 use mathlib.Core.List.{List, [], ◌∷◌}
 use lib.Dec.{ltb, eqb}
 use lib.ListN.{length, get_or, drop, length-drop, drop_of_length-le}
@@ -225,16 +225,16 @@ step_stands us p a s c e = go (front (drop p us)) refl e
     go (broken d) h q = absurd (let z : ◌≡◌ {A = ℕ} 0 1 = cc in omega arith)
     go over h q = absurd (let z : ◌≡◌ {A = ℕ} 0 1 = cc in omega arith)
 
-pub fault-front : (p d : ℕ) (us : List ℕ) → front us ≡ broken d → fault p 0 us ≡ some (p + d)
+pub fault-front : (p d : ℕ) (us : List ℕ) → front us ≡ broken d → fault p 0 us ≡ Some (p + d)
 unfolding front fault
 fault-front p d [] e = absurd (let z : ◌≡◌ {A = ℕ} 0 1 = cc in omega arith)
 fault-front p d (u ∷ us) e = rw e
 
-pub step_broken : (us : List ℕ) (p : ℕ) (q : Position) → step_at us p ≡ step.Broken q → fault_at us p ≡ some q.0
+pub step_broken : (us : List ℕ) (p : ℕ) (q : Position) → step_at us p ≡ step.Broken q → fault_at us p ≡ Some q.0
 unfolding step_at
 step_broken us p q e = go (front (drop p us)) refl e
   where
-    go : (f : Front) → front (drop p us) ≡ f → step_of p f ≡ step.Broken q → fault_at us p ≡ some q.0
+    go : (f : Front) → front (drop p us) ≡ f → step_of p f ≡ step.Broken q → fault_at us p ≡ Some q.0
     go (stands t) h r = absurd (let z : ◌≡◌ {A = ℕ} 0 1 = cc in omega arith)
     go (broken d) h r = let x : q ≡ position (p + d) = cc in rw x (fault-front p d (drop p us) h)
     go over h r = absurd (let z : ◌≡◌ {A = ℕ} 0 1 = cc in omega arith)
@@ -243,8 +243,8 @@ step_broken us p q e = go (front (drop p us)) refl e
 
 -- a position, if there is one, at n or before it
 abbrev pub Upto : ℕ → Option ℕ → Type 0
-Upto n none = Unit {0}
-Upto n (some p) = p ≤ n
+Upto n None = Unit {0}
+Upto n (Some p) = p ≤ n
 
 abbrev Within : ℕ → Front → Type 0
 Within n (stands s) = Unit {0}
@@ -271,15 +271,15 @@ fault-within p k [] = tt
 fault-within p zero (u ∷ us) = go (front (u ∷ us)) (front-within (sight u us)) (fault (p + 1) (width (what u) - 1) us) (fault-within (p + 1) (width (what u) - 1) us)
   where
     go : (f : Front) → Within (suc (length us)) f → (o : Option ℕ) → Upto (p + 1 + length us) o → Upto (p + suc (length us)) (fault_or p f o)
-    go (stands s) w none h = tt
-    go (stands s) w (some q) h = omega arith
+    go (stands s) w None h = tt
+    go (stands s) w (Some q) h = omega arith
     go (broken d) w o h = omega arith
     go over w o h = tt
 fault-within p (suc k) (u ∷ us) = on (fault (p + 1) k us) (fault-within (p + 1) k us)
   where
     on : (o : Option ℕ) → Upto (p + 1 + length us) o → Upto (p + suc (length us)) o
-    on none h = tt
-    on (some q) h = omega arith
+    on None h = tt
+    on (Some q) h = omega arith
 
 pub text-within : (us : List ℕ) → Upto (length us) (text_fault us)
 unfolding text_fault
@@ -302,7 +302,7 @@ step_past us p e = elim (lt_or p (length us)) [
 -- no token is left
 pub record Ended (us : List ℕ) (p : ℕ) : Type 0 where
   pub tokens : tokens_at us p ≡ []
-  pub fault : fault_at us p ≡ none
+  pub fault : fault_at us p ≡ None
 
 pub past_ended : (us : List ℕ) (p : ℕ) → length us ≤ p → Ended us p
 unfolding walk fault

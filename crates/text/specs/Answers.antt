@@ -1,15 +1,16 @@
 -- What the walk's calls answer (document 01, 'Text units': each step reports where it stood and what stands there, and hands back the
 -- walk at the next position).
-use Rattle.std.specs.Prelude.{ℕ, ◌+◌, List, drop}
-use Rattle.std.proofs.Math.Option.{Option, none, some}
+use Rattle.std.specs.Prelude.{Err, None, Ok, Option, Some, ℕ, ◌+◌, List, drop, Result}
 use Rattle.text.specs.Asked.{width}
 use Rattle.text.specs.Walk.{Front, stands, broken, over, front, run, text_fault, extended_count}
 use Rattle.text.specs.declared.Position.{Position}
 use Rattle.text.specs.declared.Cursor.{Cursor}
 use Rattle.text.specs.declared.Step.{Step}
 use Rattle.text.specs.declared.Step.TheVariants.{Stands, Broken, End}
-use Rattle.text.specs.declared.Judged.{Judged}
-use Rattle.text.specs.declared.Judged.TheVariants as judgement
+
+-- a whole text judged: its number of extended controls, or the position at fault
+abbrev pub Judged : Type 0
+Judged = Result ℕ Position
 
 -- a position of the text, in units
 abbrev pub position : ℕ → Position
@@ -36,8 +37,8 @@ control_at us p = step_at us (p + run (drop p us))
 
 -- a sound text with its number of extended controls, else its first fault
 abbrev pub verdict : Option ℕ → ℕ → Judged
-verdict none n = judgement.Sound n
-verdict (some p) n = judgement.Broken (position p)
+verdict None n = Ok n
+verdict (Some p) n = Err (position p)
 
 -- the same of a text's units
 unfoldable pub judged : List ℕ → Judged
@@ -46,9 +47,9 @@ judged us = verdict (text_fault us) (extended_count us)
 -- document 01's number of a judgement (0 accepted, 12 text rule broken), and what stands beside it: the extended controls, or the
 -- position at fault
 abbrev pub number : Judged → ℕ
-number (judgement.Sound n) = 0
-number (judgement.Broken p) = 12
+number (Ok n) = 0
+number (Err p) = 12
 
 abbrev pub beside : Judged → ℕ
-beside (judgement.Sound n) = n
-beside (judgement.Broken p) = p.0
+beside (Ok n) = n
+beside (Err p) = p.0

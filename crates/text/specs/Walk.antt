@@ -1,6 +1,5 @@
 -- The walk over a text's units: what stands at each position, and the first unit that breaks what `Asked` asks (document 01, 'Text units').
-use Rattle.std.specs.Prelude.{ℕ, zero, suc, ◌+◌, ◌-◌, ◌≤◌, true, false, cond, ◌&&◌, not, List, [], ◌∷◌, ltb, eqb, length, get_or, drop}
-use Rattle.std.proofs.Math.Option.{Option, none, some}
+use Rattle.std.specs.Prelude.{ℕ, zero, suc, ◌+◌, ◌-◌, ◌≤◌, true, false, cond, ◌&&◌, not, List, [], ◌∷◌, ltb, eqb, length, get_or, drop, None, Option, Some}
 use Rattle.text.specs.Asked.{what, width}
 use Rattle.text.specs.declared.Class.TheVariants.{Character, Inline, Extended}
 use Rattle.text.specs.declared.Standing.{Standing}
@@ -88,12 +87,12 @@ extended_count us = extended_in (tokens us)
 -- the fault at position p, else that of what follows
 abbrev pub fault_or : ℕ → Front → Option ℕ → Option ℕ
 fault_or p (stands s) rest = rest
-fault_or p (broken d) rest = some (p + d)
-fault_or p over rest = none
+fault_or p (broken d) rest = Some (p + d)
+fault_or p over rest = None
 
 -- the position of the first unit that breaks a rule, with p and k as in `walk`
 unfoldable pub fault : ℕ → ℕ → List ℕ → Option ℕ
-fault p k [] = none
+fault p k [] = None
 fault p zero (u ∷ us) = fault_or p (front (u ∷ us)) (fault (p + 1) (width (what u) - 1) us)
 fault p (suc k) (u ∷ us) = fault (p + 1) k us
 
@@ -104,7 +103,7 @@ fault_at us p = fault p 0 (drop p us)
 -- that of a whole text; where there is no unit, 13 is lacking. It is the first wrong one: what stands before it is the beginning of a sound
 -- text (`right_before` in proofs/FirstLaws.antt)
 unfoldable pub text_fault : List ℕ → Option ℕ
-text_fault [] = some 0
+text_fault [] = Some 0
 text_fault (u ∷ us) = fault 0 0 (u ∷ us)
 
 -- ---- ordinary units

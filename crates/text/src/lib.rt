@@ -8,7 +8,7 @@ ghost use Rattle.text.specs.Walk.{front_of, run};
 ghost use Rattle.text.specs.Mirror.{four_ordinary};
 ghost use Rattle.text.specs.Answers.{step_of, step_at, cursor};
 
-use numbers::number16;
+use numbers::little;
 
 // A position of the text, in units; it is never added to a byte offset.
 #[derive(Clone, Copy)]
@@ -42,7 +42,8 @@ pub struct Cursor {
     pub at: Position,
 }
 
-// What a step finds: where it stood, what stands there and the walk behind it; or the unit that breaks a rule; or the end.
+// What a step finds: where it stood, what stands there and the walk behind it; or the unit that breaks a rule; or the end. Three ways on, each with
+// its name: an Option of a Result would have none.
 #[derive(Clone, Copy)]
 pub enum Step {
     Stands {
@@ -55,43 +56,35 @@ pub enum Step {
 }
 
 // A whole text: how many extended controls it has, or the unit that breaks a rule.
-#[derive(Clone, Copy)]
-pub enum Judged {
-    Sound(usize),
-    Broken(Position),
-}
+pub type Judged = Result<usize, Position>;
 
 // The unit at a position, or 0 where there is none.
+#[tactic(auto, using(crate::proofs::UnitLaws::unit_part, crate::proofs::UnitLaws::no_unit))]
 fn unit(text: &[u8], at: Position) -> u32
     ensures { result ≡ get_or (units text.now) at.0 0 }
 {
-    let p = at.0;
-    if p < text.len() / 2 {
-        let from = 2 * p;
-        number16(&text[from..])
+    if at.0 < text.len() / 2 {
+        let from = 2 * at.0;
+        little::<2>(&text[from..from + 2])
     } else {
         0
     }
 }
 
-// Table 6 by the code: X extended, I inline, C one position.
-fn class_of(code: usize) -> Class
-    requires { code < 32 }
+// Table 6 by the code: every other unit below 32 takes one position.
+#[tactic(auto, unfolding(crate::specs::Asked::class_of, crate::specs::Asked::among))]
+fn class_of(code: u32) -> Class
     ensures { result ≡ class_of code }
 {
-    // The end of a text, which every text has: the table is laid out anew at each look.
-    if code == 13 {
-        return Class::Character;
-    }
-    let table = b"CXXXIIIIIICXXCXXXXXIIXXXCCCCCCCC";
-    match table[code] {
-        b'X' => Class::Extended,
-        b'I' => Class::Inline,
+    match code {
+        1..=3 | 11 | 12 | 14..=18 | 21..=23 => Class::Extended,
+        4..=9 | 19 | 20 => Class::Inline,
         _ => Class::Character,
     }
 }
 
 // What a unit begins.
+#[tactic(auto, unfolding(crate::specs::Asked::what))]
 fn begun(u: u32) -> Standing
     ensures { result ≡ begins u }
 {
@@ -99,7 +92,7 @@ fn begun(u: u32) -> Standing
         return Standing::Ordinary(u);
     }
     Standing::Control(Control {
-        class: class_of(u as usize),
+        class: class_of(u),
         code: u,
     })
 }
@@ -109,40 +102,31 @@ fn positions(what: Standing) -> usize
     ensures { (result ≡ width what) × ((1 ≤ result) × (result ≤ 8)) }
 {
     match what {
-        Standing::Ordinary(_) => 1,
-        Standing::Control(c) => {
-            let class = c.class;
-            match class {
-                Class::Character => 1,
-                Class::Inline => 8,
-                Class::Extended => 8,
-            }
-        }
+        Standing::Control(
+            Control {
+                class: Class::Inline | Class::Extended,
+                ..
+            },
+        ) => 8,
+        _ => 1,
     }
 }
 
 // The next four units are there and ordinary (document 01, 'Text units': units from 32 up).
+#[tactic(auto, using(crate::proofs::UnitLaws::four_bytes, crate::proofs::UnitLaws::four_few))]
 fn four_ordinary(text: &[u8], at: Position) -> bool
     requires { at.0 < length text.now / 2 }
     ensures { result ≡ four_ordinary (units text.now) at.0 }
 {
-    let p = at.0;
-    if text.len() / 2 - p < 4 {
+    if text.len() / 2 < at.0 + 4 {
         return false;
     }
-    let from = 2 * p;
-    let to = from + 8;
-    let four = &text[from..to];
-    if number16(four) < 32 {
-        return false;
-    }
-    if number16(&four[2..]) < 32 {
-        return false;
-    }
-    if number16(&four[4..]) < 32 {
-        return false;
-    }
-    32 <= number16(&four[6..])
+    let from = 2 * at.0;
+    let four = &text[from..from + 8];
+    32 <= little::<2>(four)
+        && 32 <= little::<2>(&four[2..])
+        && 32 <= little::<2>(&four[4..])
+        && 32 <= little::<2>(&four[6..])
 }
 
 // The last of the n units that belong to the unit u, where a control has its own code again (document 01, 'Text units').
@@ -151,64 +135,54 @@ fn closing(text: &[u8], at: Position, u: u32, n: usize) -> u32
     ensures { result ≡ get_or (units text.now) (at.0 + (n - 1)) 0 }
 {
     if n == 1 {
-        return u;
+        u
+    } else {
+        unit(text, Position(at.0 + (n - 1)))
     }
-    let last = at.0 + (n - 1);
-    unit(text, Position(last))
 }
 
 // The step at a unit u that begins `what`, with `left` units from it on, the last of them that belong to it being `last`, by the rules of
 // document 01, 'Text units'.
+#[tactic(auto, unfolding(crate::specs::Walk::front_of))]
 fn settle(at: Position, u: u32, what: Standing, left: usize, last: u32) -> Step
     requires { (what ≡ begins u) × (at.0 + left < 18446744073709551616) }
     ensures { result ≡ step_of at.0 (front_of (record { unit = u; left = left; last = last })) }
 {
     let n = positions(what);
-    if u == 0 {
+    if u == 0 || left < n {
         return Step::Broken(at);
     }
-    if left < n {
-        return Step::Broken(at);
-    }
-    let p = at.0;
     if last != u {
-        let closing = p + (n - 1);
-        return Step::Broken(Position(closing));
+        return Step::Broken(Position(at.0 + (n - 1)));
     }
-    let behind = p + n;
-    if left == n {
-        if u != 13 {
-            return Step::Broken(Position(behind));
-        }
-    } else {
-        if u == 13 {
-            return Step::Broken(at);
-        }
+    let behind = Position(at.0 + n);
+    if left == n && u != 13 {
+        return Step::Broken(behind);
+    }
+    if left != n && u == 13 {
+        return Step::Broken(at);
     }
     Step::Stands {
         at,
         what,
-        next: Cursor {
-            at: Position(behind),
-        },
+        next: Cursor { at: behind },
     }
 }
 
 impl Cursor {
     // The walk at the next unit below 32, or at the end (document 01, 'Filling a field'): most units are ordinary.
+    #[tactic(auto, using(crate::proofs::RunLaws::run_steps))]
     pub fn past_ordinary(self, text: &[u8]) -> Cursor
         ensures { result ≡ cursor (self.at.0 + run (drop self.at.0 (units text.now))) }
     {
-        let at = self.at;
-        let n = text.len() / 2;
-        let mut p = at.0;
-        while p < n {
+        let mut p = self.at.0;
+        // No `for`: it goes on by four or by one.
+        while p < text.len() / 2 {
             if four_ordinary(text, Position(p)) {
                 p += 4;
+            } else if unit(text, Position(p)) < 32 {
+                break;
             } else {
-                if unit(text, Position(p)) < 32 {
-                    break;
-                }
                 p += 1;
             }
         }
@@ -216,18 +190,18 @@ impl Cursor {
     }
 
     // What stands at the cursor, and the cursor behind it (document 01, 'Text units': each step reports).
+    #[tactic(auto, using(crate::proofs::StepLaws::step_exits))]
     pub fn step(self, text: &[u8]) -> Step
         ensures { result ≡ step_at (units text.now) self.at.0 }
     {
         let at = self.at;
-        let p = at.0;
-        if text.len() / 2 <= p {
+        let n = text.len() / 2;
+        if n <= at.0 {
             return Step::End;
         }
-        let left = text.len() / 2 - p;
         let u = unit(text, at);
         let what = begun(u);
         let last = closing(text, at, u, positions(what));
-        settle(at, u, what, left, last)
+        settle(at, u, what, n - at.0, last)
     }
 }

@@ -1,8 +1,8 @@
 -- The sheet: the stream up to the paragraph header, the paragraph changed, and all behind it. Assumes nothing.
-use Prim.Native.Nat.{ℕ, suc, ◌+◌, ◌/◌, ◌≤◌, ◌<◌, min}
+use Rattle.std.specs.Prelude.{None, Option, Some}
+use Prim.Native.Nat.{ℕ, suc, ◌+◌, ◌/◌, ◌≤◌, ◌<◌}
 use native.Mathlib.Omega.{arith}
 use mathlib.Core.Path.{◌≡◌, refl, sym, ap, ap₂, ◌∙◌}
-use mathlib.Core.Option.{Option, none, some}
 use mathlib.Core.List.{List, [], ◌∷◌, ◌++◌}
 use borrow.Author.Tests.{lt-ltb, le-ltb}
 use lib.ListN.{length, take, drop}
@@ -14,18 +14,19 @@ use Rattle.paragraph.specs.View.{view, kids, child}
 use Rattle.paragraph.specs.Stream.{records_in}
 use Rattle.entries.specs.Entries.{entries}
 use Rattle.paragraph.specs.Rules.{bytes_in}
-use Rattle.paragraph.specs.Places.{found_in, body_found, body_of}
-use Rattle.paragraph.specs.declared.children.Found.{Found}
+use Rattle.paragraph.specs.Places.{found_in, body_found, Found}
 use Rattle.paragraph.proofs.StreamLaws.{Read}
 use Rattle.paragraph.proofs.BodyLaws.{child_found}
 use Rattle.filling.specs.Fields.{Field}
 use Rattle.filling.specs.Editing.{with_body}
 use Rattle.filling.specs.Shapes.{packed, shapes_in, shapes_after}
 use Rattle.filling.specs.Filling.{new_head, filling, shapes_of}
-use Rattle.putting.specs.Putting.{largest, Puts}
-use Rattle.changing.specs.Child.{record_with}
+use Rattle.putting.specs.Sheet.{Put}
+use Rattle.putting.specs.declared.put.Sheet.{Sheet}
+use Rattle.changing.specs.declared.fill.Piece.{Piece}
+use Rattle.changing.specs.Child.{record_of, record_with, record_read}
 use Rattle.writing.specs.Sheet.{behind_bytes, paragraph_bytes, sheet_bytes, sheet_written}
-use Rattle.putting.proofs.PuttingLaws.{puts_as, puts_then}
+use Rattle.putting.proofs.PuttingLaws.{put_as, put_then}
 use Rattle.changing.proofs.ChildLaws.{shapes-number}
 use Rattle.writing.proofs.BehindLaws.{rec_is}
 
@@ -33,8 +34,8 @@ use Rattle.writing.proofs.BehindLaws.{rec_is}
 
 shapes_of_lem : (o : Option (List ℕ)) → shapes_in (bytes_in o) ≡ shapes_of o
 unfolding shapes_of shapes_in entries
-shapes_of_lem none = refl
-shapes_of_lem (some b) = refl
+shapes_of_lem None = refl
+shapes_of_lem (Some b) = refl
 
 pub shapes_counted : (s : List ℕ) (bs : Bytes s) (n at a b v : ℕ) {f : Found} {body : List ℕ} {m : ℕ} → f ≡ found_in n kind.shapes 0 at (records_in (drop at s))
     → body ≡ bytes_in (body_found s f) → m ≡ length (packed (shapes_after a b v (shapes_in body)))
@@ -70,48 +71,46 @@ abbrev pub Shapes : Field → List ℕ → List ℕ → ℕ → ℕ → ℕ → 
 Shapes f value s n behind shapes =
     shapes ≡ length (shapes_after f.a f.b (length value / 2) (shapes_of (child kind.shapes (kids n (records_in (drop behind s))))))
 
-head_is : (f : Field) (value s : List ℕ) {header : ℕ} {r : Record} (d : Read s header r) {body : List ℕ} {n shapes : ℕ} → n ≡ r.level + 1 → body ≡ body_of s r
-    → Shapes f value s n r.next.0 shapes
-    → record_with r (new_head f.a f.b (length value / 2) shapes body)
+head_is : (f : Field) (value s : List ℕ) {header : ℕ} {r : Record} (d : Read s header r) (x : Piece) {n shapes : ℕ} → n ≡ r.level + 1
+    → record_of x ≡ record_read s r → Shapes f value s n r.next.0 shapes
+    → record_with x (new_head f.a f.b (length value / 2) shapes x.body.bytes.now)
     ≡ with_body ((filling f value).head (view d.rec (records_in (drop r.next.0 s)))) d.rec
 unfolding filling with_body view
-head_is f value s {header} {r} d {body} {n} {shapes} e g k =
+head_is f value s {header} {r} d x {n} {shapes} e g k =
     let l : n ≡ suc d.rec.level = omega (arith, d.level_is) in
     let m : Shapes f value s (suc d.rec.level) r.next.0 shapes
-    = k ∙ ap (λ (x : ℕ). length (shapes_after f.a f.b (length value / 2) (shapes_of (child kind.shapes (kids x (records_in (drop r.next.0 s))))))) l in
-    ap (λ (x : Rec). with_body (new_head f.a f.b (length value / 2) shapes x.body) x) (rec_is d g)
-    ∙ ap (λ (x : ℕ). with_body (new_head f.a f.b (length value / 2) x d.rec.body) d.rec) m
+    = k ∙ ap (λ (y : ℕ). length (shapes_after f.a f.b (length value / 2) (shapes_of (child kind.shapes (kids y (records_in (drop r.next.0 s))))))) l in
+    ap (λ (y : Rec). with_body (new_head f.a f.b (length value / 2) shapes y.body) y) (rec_is d g)
+    ∙ ap (λ (y : ℕ). with_body (new_head f.a f.b (length value / 2) y d.rec.body) d.rec) m
 
-module _ (f : Field) (value s : List ℕ) (header : ℕ) {out mid : List ℕ} {p : ℕ} (t : Puts out 0 (take header (drop 0 s)) p mid) where
-  pub sheet_none : {after : List ℕ} {q : ℕ} → records_in (drop header s) ≡ [] → Puts mid p (drop header s) q after → Puts out 0 (sheet_bytes f value s header) q after
+module _ (f : Field) (value s : List ℕ) (header : ℕ) {p t u : Sheet} (k : Put p (take header (drop 0 s)) t) where
+  pub sheet_none : records_in (drop header s) ≡ [] → Put t (drop header s) u → Put p (sheet_bytes f value s header) u
   unfolding sheet_bytes
-  sheet_none e u = puts_then t (puts_as (sym (paragraph_none f value s header (records_in (drop header s)) e)) u)
+  sheet_none e w = put_then k (put_as (sym (paragraph_none f value s header (records_in (drop header s)) e)) w)
 
   module _ {r : Record} (d : Read s header r) where
-    pub sheet-short : {after : List ℕ} {q : ℕ} → r.len < 22 → Puts mid p (drop header s) q after → Puts out 0 (sheet_bytes f value s header) q after
+    pub sheet-short : r.len < 22 → Put t (drop header s) u → Put p (sheet_bytes f value s header) u
     unfolding sheet_bytes
-    sheet-short l u =
-        puts_then t
-        (puts_as
-        (sym (ap (paragraph_bytes f value s header) d.records ∙ paragraph_short f value s header d.rec _ (rw (← d.length-is) l)))
-        u)
+    sheet-short l w =
+        put_then k
+        (put_as (sym (ap (paragraph_bytes f value s header) d.records ∙ paragraph_short f value s header d.rec _ (rw (← d.length-is) l))) w)
 
-    pub sheet-long : {body mid2 after : List ℕ} {n shapes q z : ℕ} → 22 ≤ r.len → n ≡ r.level + 1 → body ≡ body_of s r
+    pub sheet-long : (x : Piece) {mid : Sheet} {n shapes : ℕ} → 22 ≤ r.len → n ≡ r.level + 1 → record_of x ≡ record_read s r
         → Shapes f value s n r.next.0 shapes
-        → Puts mid p (encode_one (record_with r (new_head f.a f.b (length value / 2) shapes body))) q mid2
-        → Puts mid2 q (behind_bytes f value n 0 s r.next.0 (records_in (drop r.next.0 s))) z after
-        → Puts out 0 (sheet_bytes f value s header) z after
+        → Put t (encode_one (record_with x (new_head f.a f.b (length value / 2) shapes x.body.bytes.now))) mid
+        → Put mid (behind_bytes f value n 0 s r.next.0 (records_in (drop r.next.0 s))) u
+        → Put p (sheet_bytes f value s header) u
     unfolding sheet_bytes
-    sheet-long {body} {mid2} {after} {n} {shapes} {q} {z} l e g k u w =
+    sheet-long x {mid} {n} {shapes} l e g h v w =
         let lev : n ≡ suc d.rec.level = omega (arith, d.level_is) in
         let rs = records_in (drop r.next.0 s) in
         let all : paragraph_bytes f value s header (records_in (drop header s))
-        ≡ encode_one (record_with r (new_head f.a f.b (length value / 2) shapes body)) ++ behind_bytes f value n 0 s r.next.0 rs
+        ≡ encode_one (record_with x (new_head f.a f.b (length value / 2) shapes x.body.bytes.now)) ++ behind_bytes f value n 0 s r.next.0 rs
         = ap (paragraph_bytes f value s header) d.records
         ∙ paragraph_long f value s header d.rec rs (rw (← d.length-is) l)
-        ∙ ap₂ (λ (x y : List ℕ). x ++ y) (ap encode_one (sym (head_is f value s d e g k)))
-        (ap₂ (λ (x y : ℕ). behind_bytes f value x 0 s y rs) (sym lev) (sym d.next-is)) in
-        puts_then t (puts_as (sym all) (puts_then u w))
+        ∙ ap₂ (λ (a b : List ℕ). a ++ b) (ap encode_one (sym (head_is f value s d x e g h)))
+        (ap₂ (λ (a b : ℕ). behind_bytes f value a 0 s b rs) (sym lev) (sym d.next-is)) in
+        put_then k (put_as (sym all) (put_then v w))
 
 -- ---- the calls
 
@@ -129,8 +128,6 @@ module _ (f : Field) (value s : List ℕ) (header : ℕ) where
   sheet_of_lem h k = rw (le-ltb 4294967295 (length s) h, le-ltb 4294967295 (length value) k)
 
 -- the body of a record that was read is as long as its header says
-pub body_long : {s : List ℕ} {header : ℕ} {r : Record} (d : Read s header r) {body : List ℕ} {m : ℕ} → body ≡ body_of s r → m ≤ r.len → m ≤ length body
-body_long d e h = omega (arith, ap length (e ∙ d.body_is), d.length-is)
-
-pub measured : {out after bs : List ℕ} {r : ℕ} → Puts out 0 bs r after → r ≡ min largest (length bs)
-measured {out} {after} {bs} k = k.next-is ∙ omega arith
+pub body_long : {s : List ℕ} {header : ℕ} {r : Record} (d : Read s header r) (x : Piece) {m : ℕ} → record_of x ≡ record_read s r → m ≤ r.len
+    → m ≤ length x.body.bytes.now
+body_long d x e h = omega (arith, ap (λ (y : Rec). length y.body) (rec_is d e), d.length-is)

@@ -1,9 +1,9 @@
 -- What is written is the sheet: over a stream that is its records, the bytes are those of the records edited. Assumes nothing.
+use Rattle.std.specs.Prelude.{None, Option, Some}
 use Prim.Native.Nat.{ℕ, suc, ◌+◌, ◌-◌, ◌≤◌, ◌<◌}
 use native.Mathlib.Omega.{arith}
 use mathlib.Core.Path.{◌≡◌, refl, sym, ap, ap₂, ◌∙◌}
 use mathlib.Core.Bool.{Bool, true, false}
-use mathlib.Core.Option.{Option, none, some}
 use mathlib.Core.List.{List, [], ◌∷◌, ◌++◌, map, append_assoc}
 use lib.Dec.{eqb}
 use borrow.Author.Tests.{eqb-true, eqb-false, lt-ltb, le-ltb}
@@ -31,8 +31,8 @@ use Rattle.writing.proofs.SheetLaws.{paragraph_long}
 
 encode-put : (o : Option (List ℕ)) (r : Rec) (rs : List Rec) → encode (put o r rs) ≡ changed_bytes o r ++ encode rs
 unfolding encode put changed_bytes
-encode-put none r rs = refl
-encode-put (some b) r rs = refl
+encode-put None r rs = refl
+encode-put (Some b) r rs = refl
 
 encode-next : (r : Rec) (rs : List Rec) → encode (r ∷ rs) ≡ encode_one r ++ encode rs
 unfolding encode

@@ -7,7 +7,10 @@ use Rattle.paragraph.specs.declared.view.Side.TheVariants as S
 use Rattle.filling.specs.Fields.{Field}
 use Rattle.filling.specs.Editing.{with_body, count_control}
 use Rattle.filling.specs.Filling.{filling}
-use Rattle.changing.specs.Child.{child_bytes}
+use Rattle.changing.specs.Child.{field_at, record_of, child_bytes}
+use Rattle.changing.specs.declared.fill.Fill.{Fill}
+use Rattle.changing.specs.declared.fill.Piece.{Piece}
+use Rattle.writing.specs.declared.behind.Children.{Children}
 
 -- a plain field by its numbers
 abbrev pub field_of : ℕ → ℕ → ℕ → Field
@@ -17,6 +20,9 @@ field_of ordinal a b = record { ordinal = ordinal; a = a; b = b; plain = true }
 unfoldable pub below_bytes : Field → List ℕ → ℕ → ℕ → Rec → List ℕ
 below_bytes f value n j r =
     elim (side n r.tag r.level) [ S.Beyond ↦ encode_one r | S.Owned ↦ child_bytes f value j r | S.Passed ↦ encode_one r ]
+
+abbrev pub below_put : Fill → Children → Piece → List ℕ
+below_put fill c p = below_bytes (field_at fill.spot) fill.value.bytes.now c.n c.nth (record_of p)
 
 -- how many control headers stand before the record behind it
 unfoldable pub controls_passed : ℕ → ℕ → ℕ → ℕ → ℕ
@@ -29,6 +35,9 @@ behind_bytes f value n j s at (r ∷ rs) =
     cond (ltb r.level n) (drop at s)
     (below_bytes f value n j r ++ behind_bytes f value n (controls_passed n j r.tag r.level) s (at + size r) rs)
 
+abbrev pub behind_put : Fill → ℕ → List ℕ → ℕ → List ℕ
+behind_put fill n s from = behind_bytes (field_at fill.spot) fill.value.bytes.now n 0 s from (records_in (drop from s))
+
 -- the bytes from the paragraph header on, which stands at `header` before rs; a header that is too short is copied with all behind it
 unfoldable pub paragraph_bytes : Field → List ℕ → List ℕ → ℕ → List Rec → List ℕ
 paragraph_bytes f value s header [] = drop header s
@@ -38,6 +47,9 @@ paragraph_bytes f value s header (r ∷ rs) =
 
 unfoldable pub sheet_bytes : Field → List ℕ → List ℕ → ℕ → List ℕ
 sheet_bytes f value s header = take header s ++ paragraph_bytes f value s header (records_in (drop header s))
+
+abbrev pub sheet_put : Fill → List ℕ → ℕ → List ℕ
+sheet_put fill s header = sheet_bytes (field_at fill.spot) fill.value.bytes.now s header
 
 -- the sheet of a stream and a value whose lengths have 32 bits; of longer ones there is none
 unfoldable pub sheet_written : Field → List ℕ → List ℕ → ℕ → List ℕ

@@ -4,4 +4,5 @@
 mod behind;
 mod sheet;
 
+pub use changing::Spot;
 pub use sheet::{measure, write};

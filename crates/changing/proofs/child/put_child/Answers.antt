@@ -1,30 +1,26 @@
 use Rattle.std.proofs.Common.{arith}
-use Rattle.putting.proofs.PuttingLaws.{puts_as, puts_none}
-use Rattle.changing.proofs.ChildLaws.{child-text, child-shapes, child-layout, child-altered, child-control, child_other}
+use Rattle.changing.proofs.ChildLaws.{child_text, child_shapes, child_layout, child_altered, child_same}
 use Rattle.changing.proofs.child.put_child.Goals as goal
-use Rattle.changing.proofs.child.put_child.Goals.{then-tag-eq-CONTROL_HEADER+else-nth-ordinal, else-tag-eq-CONTROL_HEADER}
+use Rattle.changing.proofs.child.put_child.Goals.{in_default-via-in-71+else-nth-fill, in_default-via-in_default-1}
 
-pub returns-then-tag-eq-TEXT : goal.returns-then-tag-eq-TEXT
-returns-then-tag-eq-TEXT c = puts_as (child-text c.args.spot c.args.nth c.args.r c.args.value.now c.args.body.now c.if-tag-eq-TEXT.true) c.put_text.ensures
+pub returns-in-67 : goal.returns-in-67
+returns-in-67 c = child_text c.args.fill.spot c.args.fill.value.bytes.now c.args.nth c.args.piece c.in-67.is c.put_text.ensures
 
-pub returns-then-tag-eq-SHAPES : goal.returns-then-tag-eq-SHAPES
-returns-then-tag-eq-SHAPES c = puts_as (child-shapes c.args.spot c.args.nth c.args.r c.args.value.now c.args.body.now c.if-tag-eq-SHAPES.true) c.put_shapes.ensures
+pub returns-in-68 : goal.returns-in-68
+returns-in-68 c =
+    child_shapes c.args.fill.spot c.args.fill.value.bytes.now c.args.nth c.args.piece c.in-68.is (rw c.change.ensures at c.put_shapes.ensures)
 
-pub returns-then-tag-eq-LAYOUT : goal.returns-then-tag-eq-LAYOUT
-returns-then-tag-eq-LAYOUT c =
-    puts_as (child-layout c.args.spot c.args.nth c.args.r c.args.value.now c.args.body.now c.if-tag-eq-LAYOUT.true) (puts_none _ _ (omega arith) (omega arith))
+pub returns-in-69 : goal.returns-in-69
+returns-in-69 c = child_layout c.args.fill.spot c.args.fill.value.bytes.now c.args.nth c.args.piece c.args.sheet.now c.in-69.is
 
-pub returns-then-nth-ordinal : goal.returns-then-nth-ordinal
-returns-then-nth-ordinal c =
-    puts_as (child-altered c.args.spot c.args.nth c.args.r c.args.value.now c.args.body.now c.if-tag-eq-CONTROL_HEADER.true c.if-nth-ordinal.true) c.put_altered.ensures
+pub returns-in-71 : goal.returns-in-71
+returns-in-71 c = child_altered c.args.fill.spot c.args.fill.value.bytes.now c.args.nth c.args.piece c.in-71.is c.if-nth-fill.true c.put_altered.ensures
 
-pub returns : goal.returns
-returns c =
-    puts_as
-    (elim c.if-tag-eq-CONTROL_HEADER.branch [
-      | then-tag-eq-CONTROL_HEADER+else-nth-ordinal w ↦
-          child-control c.args.spot c.args.nth c.args.r c.args.value.now c.args.body.now w.if-tag-eq-CONTROL_HEADER.true w.if-nth-ordinal.false
-      | else-tag-eq-CONTROL_HEADER w ↦
-          child_other c.args.spot c.args.nth c.args.r c.args.value.now c.args.body.now c.if-tag-eq-TEXT.false c.if-tag-eq-SHAPES.false c.if-tag-eq-LAYOUT.false w.if-tag-eq-CONTROL_HEADER.false
-    ])
-    c.put_same.ensures
+pub returns-in_default : goal.returns-in_default
+returns-in_default c =
+    elim c.in_default.branch [
+      | in_default-via-in-71+else-nth-fill w ↦
+          child_same c.args.fill.spot c.args.fill.value.bytes.now c.args.nth c.args.piece (λ e. omega arith) (λ e. omega arith) (λ e. omega arith) (λ e. w.if-nth-fill.false) c.put_same.ensures
+      | in_default-via-in_default-1 w ↦
+          child_same c.args.fill.spot c.args.fill.value.bytes.now c.args.nth c.args.piece (λ e. omega arith) (λ e. omega arith) (λ e. omega arith) (λ e. absurd (omega arith)) c.put_same.ensures
+    ]

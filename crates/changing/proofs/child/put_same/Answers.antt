@@ -1,6 +1,6 @@
 use Rattle.std.proofs.Common.{refl}
-use Rattle.changing.proofs.ChildLaws.{puts_record}
+use Rattle.changing.proofs.ChildLaws.{put_record}
 use Rattle.changing.proofs.child.put_same.Goals as goal
 
 pub returns : goal.returns
-returns c = puts_record c.args.r refl c.put_head-p.ensures c.put_run.ensures
+returns c = put_record c.args.tag c.args.level refl c.put_head.ensures c.put_run.ensures

@@ -1,10 +1,5 @@
-use Rattle.std.proofs.Common.{◌-◌}
-use Rattle.docinfo.specs.Widths.{count_bytes}
 use Rattle.docinfo.proofs.CountLaws.{Summing}
 use Rattle.docinfo.proofs.counts.sum_counts.Given as goal
 
-abbrev pub invariant-loop-k : goal.invariant-loop-k
-invariant-loop-k l = Summing (count_bytes l.width) l.body 4294967296 l.first l.many l.sum l.k
-
-abbrev pub decreases-loop-k : goal.decreases-loop-k
-decreases-loop-k l = l.many - l.k
+abbrev pub invariant-loop-i : goal.invariant-loop-i
+invariant-loop-i g l = Summing g.row.N l.body 4294967296 l.fn.g.first l.fn.g.many l.sum l.i

@@ -1,38 +1,20 @@
-use Rattle.std.proofs.Common.{arith, ap, sym, ◌+◌, ◌*◌, ◌∙◌}
-use Rattle.records.specs.Answers.{refused_at}
-use Rattle.records.specs.declared.fault.Fault.TheVariants as F
-use Rattle.docinfo.proofs.AnswerLaws.{bodies_17, bodies_counted, bodies_within}
+use Rattle.std.proofs.Common.{arith, ◌∙◌}
+use Rattle.docinfo.specs.Widths.{count_bytes}
+use Rattle.docinfo.specs.declared.widths.Width.TheVariants as N
+use Rattle.docinfo.proofs.AnswerLaws.{bodies_17, bodies_18}
 use Rattle.docinfo.proofs.read.judge_bodies.Goals as goal
 
-pub returns-in_default : goal.returns-in_default
-returns-in_default c =
-    c.refused-in_default.ensures
-    ∙ bodies_17 _ c.args.n c.args.properties c.args.mappings c.requires (omega arith) (sym c.form_of.ensures ∙ c.in_default.is)
+pub returns-in-Some-Bits16 : goal.returns-in-Some-Bits16
+unfolding count_bytes
+returns-in-Some-Bits16 c =
+    c.judge_mappings.ensures
+    ∙ bodies_18 _ _ _ _ c.requires (omega arith) N.Bits16 (rw c.in-Some-Bits16.field-0-is at c.in-Some-Bits16.ensures)
 
-pub overflow_mul-wrong : goal.overflow_mul-wrong
-overflow_mul-wrong c =
-    omega (
-      arith,
-      bodies_within c.args.s.now c.args.n c.args.properties c.args.mappings c.requires (omega arith) c.in-Counts.width
-          (sym c.in-Counts.ensures) _ c.count_bytes.ensures.0 _ c.part.ensures _ _ c.judge_counts.ensures c.in-Fault.is,
-    )
+pub returns-in-Some-Bits32 : goal.returns-in-Some-Bits32
+unfolding count_bytes
+returns-in-Some-Bits32 c =
+    c.judge_mappings-in-Some-Bits32.ensures
+    ∙ bodies_18 _ _ _ _ c.requires (omega arith) N.Bits32 (rw c.in-Some-Bits32.field-0-is at c.in-Some-Bits32.ensures)
 
-pub overflow_add-wrong : goal.overflow_add-wrong
-overflow_add-wrong c =
-    omega (
-      arith,
-      bodies_within c.args.s.now c.args.n c.args.properties c.args.mappings c.requires (omega arith) c.in-Counts.width
-          (sym c.in-Counts.ensures) _ c.count_bytes.ensures.0 _ c.part.ensures _ _ c.judge_counts.ensures c.in-Fault.is,
-    )
-
-pub returns-in-Sound : goal.returns-in-Sound
-returns-in-Sound c =
-    bodies_counted _ c.args.n c.args.properties c.args.mappings c.requires (omega arith) _ (sym c.in-Counts.ensures) _ c.part.ensures _ _
-    c.judge_counts.ensures c.in-Sound.is
-
-pub returns-in-Fault : goal.returns-in-Fault
-returns-in-Fault c =
-    c.refused-in-Fault.ensures
-    ∙ ap (λ w. refused_at F.CountUnmatched (c.args.mappings.body.0 + w * c.in-Fault.i)) c.count_bytes.ensures.0
-    ∙ bodies_counted _ c.args.n c.args.properties c.args.mappings c.requires (omega arith) _ (sym c.in-Counts.ensures) _ c.part.ensures _ _
-    c.judge_counts.ensures c.in-Fault.is
+pub returns-in-None : goal.returns-in-None
+returns-in-None c = c.refused-in-None.ensures ∙ bodies_17 _ _ _ _ c.requires (omega arith) c.in-None.ensures

@@ -3,4 +3,4 @@ use Rattle.host.proofs.ToldPackLaws.{tells_pack}
 use Rattle.host.proofs.packing.hwp_pack.Goals as goal
 
 pub returns : goal.returns
-returns c = tells_pack c.pack-answer.ensures c.host.ensures
+returns c = tells_pack c.pack.ensures c.host.ensures

@@ -1,43 +1,33 @@
 -- The first pass answers as `read_answer` has it. Assumes nothing.
-use Rattle.std.proofs.Common.{arith, sym, ap, ◌∙◌, eq-eqb, ne_eqb}
+use Rattle.std.proofs.Common.{sym, ◌∙◌}
+use Rattle.std.proofs.lemmas.Result.{err_from_is_err_and}
 use Rattle.numbers.proofs.LittleLaws.{slice_bytes}
-use Rattle.records.proofs.ReadingLaws.{here, stops_here, ends_here}
-use Rattle.records.proofs.ScanLaws.{answer_from, answer_too_long, answer_start, scan_next, answer_stop, answer_fits, answer_over}
+use Rattle.records.proofs.ScanLaws.{answer_too_long, scans_start, scans_first, scans_next, scans_stop, scans_fits, scans_over}
 use Rattle.records.proofs.table.scan.Goals as goal
 use Rattle.records.proofs.table.scan.Goals.{then-n-room, else-n-room}
 
-pub returns-then-s-gt16777216 : goal.returns-then-s-gt16777216
-returns-then-s-gt16777216 c = c.refused.ensures ∙ sym (answer_too_long _ _ c.if-s-gt16777216.true)
+pub returns-then-s-gt-LIMIT : goal.returns-then-s-gt-LIMIT
+returns-then-s-gt-LIMIT c = c.refused.ensures ∙ sym (answer_too_long _ _ c.if-s-gt-LIMIT.true)
 
-pub loop-r-init : goal.loop-r-init
-loop-r-init c = record { small = c.if-s-gt16777216.false; inside = omega arith; count = omega arith; rest = answer_start _ _ c.if-s-gt16777216.false }
+pub loop-item-init : goal.loop-item-init
+loop-item-init c = rw c.into_iter-item-iterator.ensures.into_iter_gives (scans_start _ c.records_of-item-items.ensures c.if-s-gt-LIMIT.false)
 
-pub overflow_add-cap : goal.overflow_add-cap
-overflow_add-cap c =
-    let d = here _ _ _ (slice_bytes c.args.s.now c.type_inv.s) _ (sym c.in-Record.ensures) in
-    omega (arith, d.level_is, d.obeys.level_high)
+pub loop-item-preserved : goal.loop-item-preserved
+loop-item-preserved c =
+    let bs = slice_bytes c.args.s.now c.type_inv.s in
+    let g = rw c.in_ok-r.was at c.in-Some.ensures.steps in
+    elim c.if-n-room.branch [
+      | then-n-room w ↦ rw w.over-is (scans_first c.loop-item.invariant bs g w.if-n-room.true)
+      | else-n-room w ↦ rw w.over-is (scans_next c.loop-item.invariant bs g w.if-n-room.false)
+    ]
 
-pub loop-r-smaller : goal.loop-r-smaller
-loop-r-smaller c =
-    let d = here _ _ _ (slice_bytes c.args.s.now c.type_inv.s) _ (sym c.in-Record.ensures) in
-    omega (arith, d.next-is, d.size_low, d.inside)
+pub returns-in_err-r : goal.returns-in_err-r
+returns-in_err-r c =
+    let p = err_from_is_err_and c.from_residual.result c.from_residual.ensures.1 in
+    rw (p.1, p.2) (scans_stop c.loop-item.invariant (rw c.in_err-r.was at c.in-Some.ensures.steps))
 
-pub loop-r-preserved : goal.loop-r-preserved
-loop-r-preserved c =
-    scan_next _ _ _ _ _ _ _ _ c.loop-r.invariant (here _ _ _ (slice_bytes c.args.s.now c.type_inv.s) _ (sym c.in-Record.ensures))
-    (elim c.if-n-room.branch [
-      | then-n-room w ↦ rw (w.over-is, eq-eqb _ _ w.if-n-room.true)
-      | else-n-room w ↦ rw (w.over-is, ne_eqb _ _ w.if-n-room.false)
-    ])
+pub returns-in-None-over : goal.returns-in-None-over
+returns-in-None-over c = scans_fits c.loop-item.invariant c.in-None.ensures.steps c.in-None-over.is
 
-pub returns-in-Refused : goal.returns-in-Refused
-returns-in-Refused c = answer_stop _ _ _ _ _ _ (stops_here _ _ _ _ (sym c.in-Refused.ensures)) ∙ sym c.loop-r.invariant.rest
-
-pub returns-then-n-room-2 : goal.returns-then-n-room-2
-returns-then-n-room-2 c =
-    sym (c.loop-r.invariant.rest ∙ ap (answer_from _ _ _ _) (ends_here _ _ _ (sym c.in-End.ensures)) ∙ answer_fits _ _ _ _ c.if-n-room-2.true)
-
-pub returns-else-n-room-2 : goal.returns-else-n-room-2
-returns-else-n-room-2 c =
-    c.refused-else-n-room-2.ensures
-    ∙ sym (c.loop-r.invariant.rest ∙ ap (answer_from _ _ _ _) (ends_here _ _ _ (sym c.in-End.ensures)) ∙ answer_over _ _ _ _ c.if-n-room-2.false)
+pub returns-in-Some-over : goal.returns-in-Some-over
+returns-in-Some-over c = c.refused-in-Some-over.ensures ∙ scans_over c.loop-item.invariant c.in-None.ensures.steps c.in-Some-over.is

@@ -1,30 +1,28 @@
 -- Where the records 67 to 70 end is what `bare_in` has. Assumes nothing.
-use Rattle.std.proofs.Common.{arith, sym}
+use Rattle.std.proofs.Common.{sym, ap, ◌∙◌}
+use Rattle.std.specs.Prelude.{Some}
 use Rattle.numbers.proofs.LittleLaws.{slice_bytes}
-use Rattle.paragraph.proofs.StreamLaws.{read_at, none_at}
-use Rattle.search.proofs.BareLaws.{baring_end, baring_other, baring_on, baring_none}
-use Rattle.records.proofs.ReadingLaws.{not_record}
+use Rattle.paragraph.specs.declared.stream.RecordsFrom.{RecordsFrom}
+use Rattle.paragraph.proofs.StepLaws.{stepped}
+use Rattle.search.proofs.BareLaws.{part_is, baring_end, baring_other, baring_on, baring_none}
 use Rattle.search.proofs.passing.bare_until.Goals as goal
-
-pub returns-in_default : goal.returns-in_default
-returns-in_default c = baring_none c.loop-r.invariant (none_at _ _ _ c.record_at.ensures (not_record _ c.in_default.not-Record))
-
-pub returns-in-Beyond : goal.returns-in-Beyond
-returns-in-Beyond c =
-    let d = read_at c.args.s.now c.loop-r.at.0 (slice_bytes c.args.s.now c.type_inv.s) c.in-Record.r (sym c.in-Record.ensures) in
-    baring_end c.loop-r.invariant d (sym c.in-Beyond.ensures)
-
-pub returns-in-Passed : goal.returns-in-Passed
-returns-in-Passed c =
-    let d = read_at c.args.s.now c.loop-r.at.0 (slice_bytes c.args.s.now c.type_inv.s) c.in-Record.r (sym c.in-Record.ensures) in
-    baring_other c.loop-r.invariant d (sym c.in-Passed.ensures)
-
-pub loop-r-smaller : goal.loop-r-smaller
-loop-r-smaller c =
-    let d = read_at c.args.s.now c.loop-r.at.0 (slice_bytes c.args.s.now c.type_inv.s) c.in-Record.r (sym c.in-Record.ensures) in
-    omega (arith, d.next-is, d.stands.inside, d.least)
 
 pub loop-r-preserved : goal.loop-r-preserved
 loop-r-preserved c =
-    let d = read_at c.args.s.now c.loop-r.at.0 (slice_bytes c.args.s.now c.type_inv.s) c.in-Record.r (sym c.in-Record.ensures) in
-    baring_on c.loop-r.invariant d (sym c.in-Owned.ensures)
+    let d = stepped (slice_bytes c.args.s.now c.type_inv.s) c.loop-r.invariant.0 c.in-Some.ensures.steps in
+    let z = sym (ap (λ (p : RecordsFrom). p.at) c.in-Some.ensures.steps.1) in
+    (d.stream-is, z, rw d.at-is (baring_on c.loop-r.invariant.2 d.read (part_is _ _ _ c.stands_to.ensures c.in-Owned.ensures)))
+
+pub returns-in-Passed : goal.returns-in-Passed
+returns-in-Passed c =
+    let d = stepped (slice_bytes c.args.s.now c.type_inv.s) c.loop-r.invariant.0 c.in-Some.ensures.steps in
+    baring_other c.loop-r.invariant.2 d.read (part_is _ _ _ c.stands_to.ensures c.in-Passed.ensures)
+
+pub returns-in-Beyond : goal.returns-in-Beyond
+returns-in-Beyond c =
+    let d = stepped (slice_bytes c.args.s.now c.type_inv.s) c.loop-r.invariant.0 c.in-Some.ensures.steps in
+    ap Some c.loop-r.invariant.1 ∙ baring_end c.loop-r.invariant.2 d.read (part_is _ _ _ c.stands_to.ensures c.in-Beyond.ensures)
+
+pub returns-in-None : goal.returns-in-None
+returns-in-None c =
+    ap Some c.loop-r.invariant.1 ∙ baring_none c.loop-r.invariant.2 (rw c.loop-r.invariant.0 at c.in-None.ensures.steps.0)

@@ -4,6 +4,7 @@ use Rattle.numbers.proofs.LittleLaws.{slice_bytes}
 use Rattle.text.proofs.ControlLaws.{control_stands, none_stands, not_control}
 use Rattle.search.proofs.SearchLaws.{look_none, look_past, look_in, walking_to, walking_on, walking_twice, walking_end, walking_few, walking_sound}
 use Rattle.search.proofs.seek.search.Goals as goal
+use Rattle.search.proofs.seek.search.Goals.{in-Twice, in_default-matches}
 
 pub overflow_add-number : goal.overflow_add-number
 overflow_add-number c =
@@ -21,7 +22,7 @@ search-preserved-in-Passed c = (look_past (slice_bytes c.args.s.now c.type_inv.s
 pub loop-what-init : goal.loop-what-init
 loop-what-init c =
     let e = look_in (slice_bytes c.args.s.now c.type_inv.s) c.search.invariant _ c.in-Paragraph.ensures _ refl in
-    rw (c.begin-passed.ensures, c.text_in-text.ensures) e.begins
+    rw c.part-text.ensures e.begins
 
 pub pass-seen-requires : goal.pass-seen-requires
 pass-seen-requires c =
@@ -29,8 +30,8 @@ pass-seen-requires c =
     let k = walking_to c.loop-what.invariant r in
     (walking_few k r.onward, k.fewer)
 
-pub meet-met-requires : goal.meet-met-requires
-meet-met-requires c =
+pub new-requires : goal.new-requires
+new-requires c =
     let r = control_stands _ _ _ _ _ (sym c.in-Stands.ensures) in
     walking_sound (walking_to c.loop-what.invariant r) r.onward
 
@@ -42,7 +43,7 @@ loop-what-smaller c =
 pub loop-what-preserved : goal.loop-what-preserved
 loop-what-preserved c =
     let r = control_stands _ _ _ _ _ (sym c.in-Stands.ensures) in
-    walking_on (slice_bytes c.args.s.now c.type_inv.s) (walking_to c.loop-what.invariant r) r.onward _ c.pass-seen.ensures _ c.meet-met.ensures
+    walking_on (slice_bytes c.args.s.now c.type_inv.s) (walking_to c.loop-what.invariant r) r.onward _ c.pass-seen.ensures _ c.new.ensures c.meet-met.ensures
 
 pub overflow_add-number-in-Paragraph : goal.overflow_add-number-in-Paragraph
 overflow_add-number-in-Paragraph c =
@@ -63,8 +64,8 @@ search-preserved c =
 pub returns-in-Nothing : goal.returns-in-Nothing
 returns-in-Nothing c = look_none (slice_bytes c.args.s.now c.type_inv.s) c.search.invariant _ c.in-Nothing.ensures refl
 
-pub returns-in-Twice : goal.returns-in-Twice
-returns-in-Twice c =
+pub returns-then-matches : goal.returns-then-matches
+returns-then-matches c =
     let r = control_stands _ _ _ _ _ (sym c.in-Stands.ensures) in
-    let k = walking_on (slice_bytes c.args.s.now c.type_inv.s) (walking_to c.loop-what.invariant r) r.onward _ c.pass-seen.ensures _ c.meet-met.ensures in
-    walking_twice k c.in-Twice.is
+    let k = walking_on (slice_bytes c.args.s.now c.type_inv.s) (walking_to c.loop-what.invariant r) r.onward _ c.pass-seen.ensures _ c.new.ensures c.meet-met.ensures in
+    elim c.match-matches.branch [ in-Twice w ↦ walking_twice k w.in-Twice.is | in_default-matches w ↦ cc (w.matches-is, c.if-matches.true) ]

@@ -1,72 +1,69 @@
-use Rattle.std.proofs.Common.{ℕ, arith, sym, ◌∙◌}
-use lib.ListN.{length-replicate}
-use Rattle.numbers.proofs.LittleLaws.{slice_bytes}
-use Rattle.paragraph.proofs.StreamLaws.{read_at, none_at}
-use Rattle.section.proofs.GatherLaws.{zeros, gathers_start, gathers_ready, gathers_held, gathers_unheld, gathers_far, gathers_last, gathers_first}
-use Rattle.records.proofs.ReadingLaws.{not_record}
+use Rattle.std.proofs.Common.{arith, refl, sym, ◌∙◌}
+use Rattle.paragraph.proofs.StepLaws.{stepped}
+use Rattle.section.proofs.SlotLaws.{sooner_known}
+use Rattle.section.proofs.GatherLaws.{empty_slots, given, gathers_start, gathers_ready, gathers_held, gathers_unheld, gathers_far, gathers_place, gathers_level, gathers_last, gathers_first}
 use Rattle.section.proofs.gather.gather.Goals as goal
-use Rattle.section.proofs.gather.gather.Goals.{then-inside, then-held, else-held, else-inside}
+use Rattle.section.proofs.gather.gather.Goals.{in-Some-held, in_default}
 
 pub loop-r-init : goal.loop-r-init
-loop-r-init c = (
-  gathers_start _ _ _ _ c.none_at_fault-first.ensures.0 (slice_bytes c.args.s.now c.type_inv.s) c.requires.0 c.requires.1
-      (length-replicate {A = ℕ} 96 0) (zeros 96),
-  c.none_at_fault-first.ensures.1,
-)
+loop-r-init c =
+    let w = c.args.whole in
+    let e = c.records_from-r-items.ensures in
+    rw (c.into_iter-r-iterator.ensures.into_iter_gives, e.0, e.1)
+    (refl, gathers_start _ _ _ w.bytes w.small w.ends refl (empty_slots 16 _ c.of-slots.ensures), tt)
 
 pub overflow_add-below : goal.overflow_add-below
 overflow_add-below c =
-    let d = read_at _ _ (slice_bytes c.args.s.now c.type_inv.s) _ (sym c.in-Record.ensures) in
-    omega (arith, d.level_is, d.stands.level_high)
+    let k = c.loop-r.invariant in
+    omega (arith, gathers_level k.1 (given c.args.whole.bytes k.0 c.in-Some.ensures.steps))
 
-pub judge_slot-requires-clause-b_in_bounds : goal.judge_slot-requires-clause-b_in_bounds
-judge_slot-requires-clause-b_in_bounds c =
-    let a = sym c.in-Record.ensures in
-    let d = read_at _ _ (slice_bytes c.args.s.now c.type_inv.s) _ a in
-    (gathers_ready c.loop-r.invariant.0 a d _ _ c.note_child.ensures c.wide.ensures.0 (sym c.held.ensures ∙ c.if-held.true)).0
+pub overflow_add-place : goal.overflow_add-place
+overflow_add-place c =
+    let k = c.loop-r.invariant in
+    omega (arith, gathers_place k.1 (given c.args.whole.bytes k.0 c.in-Some.ensures.steps))
 
-pub judge_slot-requires-clause-ended : goal.judge_slot-requires-clause-ended
-judge_slot-requires-clause-ended c =
-    let a = sym c.in-Record.ensures in
-    let d = read_at _ _ (slice_bytes c.args.s.now c.type_inv.s) _ a in
-    (gathers_ready c.loop-r.invariant.0 a d _ _ c.note_child.ensures c.wide.ensures.0 (sym c.held.ensures ∙ c.if-held.true)).1
+pub overflow_cast-place : goal.overflow_cast-place
+overflow_cast-place c =
+    let k = c.loop-r.invariant in
+    omega (arith, gathers_place k.1 (given c.args.whole.bytes k.0 c.in-Some.ensures.steps))
 
-pub loop-r-smaller : goal.loop-r-smaller
-loop-r-smaller c =
-    let d = read_at _ _ (slice_bytes c.args.s.now c.type_inv.s) _ (sym c.in-Record.ensures) in
-    omega (arith, d.next-is, d.stands.inside, d.least)
+pub bounds-slots-i : goal.bounds-slots-i
+bounds-slots-i c =
+    let k = c.loop-r.invariant in
+    (gathers_ready k.1 (given c.args.whole.bytes k.0 c.in-Some.ensures.steps) c.note_child.ensures c.in-Some-held.ensures).0
+
+pub judge-requires : goal.judge-requires
+judge-requires c =
+    let k = c.loop-r.invariant in
+    (gathers_ready k.1 (given c.args.whole.bytes k.0 c.in-Some.ensures.steps) c.note_child.ensures c.in-Some-held.ensures).1
+
+pub loop-r-preserved-then-inside : goal.loop-r-preserved-then-inside
+loop-r-preserved-then-inside c =
+    let k = c.loop-r.invariant in
+    let g = given c.args.whole.bytes k.0 c.in-Some.ensures.steps in
+    let d = stepped c.args.whole.bytes k.0 c.in-Some.ensures.steps in
+    elim c.match-held.branch [
+      | in-Some-held w ↦
+          let b = sooner_known _ _ _ (refl, k.2) w.judge.ensures w.sooner-first.ensures in
+          rw (w.first-is, d.at-is) (d.stream-is, gathers_held k.1 g c.note_child.ensures c.take_own.ensures w.in-Some-held.ensures refl b.0, b.1)
+      | in_default w ↦
+          rw (w.first-is, d.at-is) (d.stream-is, gathers_unheld k.1 g c.note_child.ensures c.take_own.ensures w.in_default.ensures, k.2)
+    ]
 
 pub loop-r-preserved : goal.loop-r-preserved
 loop-r-preserved c =
-    let a = sym c.in-Record.ensures in
-    let d = read_at _ _ (slice_bytes c.args.s.now c.type_inv.s) _ a in
     let k = c.loop-r.invariant in
-    elim c.if-inside.branch [
-      | then-inside w ↦ rw (w.slots-is, w.first-is)
-          (elim w.if-held.branch [
-            | then-held v ↦ rw v.first-is (
-              gathers_held k.0 a d _ _ w.note_child.ensures w.take_own.ensures _ _ _ v.wide.ensures.0 (sym w.held.ensures ∙ v.if-held.true)
-                  v.judge_slot.ensures.0 v.sooner-first.ensures.0,
-              v.sooner-first.ensures.1 _ k.1 v.judge_slot.ensures.1,
-            )
-            | else-held v ↦ rw v.first-is (
-              gathers_unheld k.0 a d _ _ w.note_child.ensures w.take_own.ensures (sym w.held.ensures ∙ v.if-held.false),
-              k.1,
-            )
-          ])
-      | else-inside w ↦ rw (w.slots-is, w.first-is) (gathers_far k.0 a d (sym c.inside.ensures ∙ w.if-inside.false), k.1)
-    ]
+    let d = stepped c.args.whole.bytes k.0 c.in-Some.ensures.steps in (
+      d.stream-is,
+      rw d.at-is (gathers_far k.1 (given c.args.whole.bytes k.0 c.in-Some.ensures.steps) (sym c.inside.ensures ∙ c.if-inside.false)),
+      k.2,
+    )
 
 pub judge_slots-requires : goal.judge_slots-requires
-judge_slots-requires c = record {
-  slots_len = c.loop-r.invariant.0.long;
-  by_index = gathers_last c.loop-r.invariant.0 (none_at _ _ _ c.record_at.ensures (not_record _ c.in_default.not-Record));
-}
+judge_slots-requires c = let k = c.loop-r.invariant in gathers_last k.1 (rw k.0 at c.in-None.ensures.steps.0)
 
 pub returns : goal.returns
 returns c =
-    let e = none_at c.args.s.now c.loop-r.at.0 _ c.record_at.ensures (not_record _ c.in_default.not-Record) in
-    let k = c.loop-r.invariant in (
-      c.sooner.ensures.0 ∙ gathers_first k.0 e _ c.judge_slots.ensures.0,
-      c.sooner.ensures.1 _ k.1 c.judge_slots.ensures.1,
-    )
+    let k = c.loop-r.invariant in
+    let b = sooner_known _ _ _ (refl, k.2) c.judge_slots.ensures c.sooner.ensures in
+    (b.0 ∙ gathers_first k.1 (rw k.0 at c.in-None.ensures.steps.0) _ refl, b.1)

@@ -1,15 +1,14 @@
-use Rattle.std.proofs.Common.{◌∙◌}
-use Rattle.numbers.proofs.LittleLaws.{slice_bytes}
-use Rattle.section.proofs.SweepLaws.{sweeps_next, sweeps_found, sweeps_none}
+use Rattle.std.proofs.Common.{arith}
+use Rattle.section.proofs.SweepLaws.{sweeps_next, sweeps_all}
 use Rattle.section.proofs.parents.find_stray.Goals as goal
 
 pub loop-lo-preserved : goal.loop-lo-preserved
-loop-lo-preserved c = c.lesser-place.ensures ∙ sweeps_next c.args.s.now _ _ _ c.loop-lo.invariant c.sweep-stray.ensures
+loop-lo-preserved c = sweeps_next _ _ c.loop-lo.invariant c.sweep.ensures c.sooner-first.ensures
 
-pub returns-then-place-s : goal.returns-then-place-s
-returns-then-place-s c =
-    sweeps_found c.args.s.now _ _ _ (slice_bytes c.args.s.now c.type_inv.s) c.loop-lo.invariant c.requires.1 c.loop-lo-test.false c.if-place-s.true
+pub returns : goal.returns
+returns c = let w = c.args.whole in sweeps_all _ _ _ w.bytes c.loop-lo.invariant w.depth (omega arith)
 
-pub returns-else-place-s : goal.returns-else-place-s
-returns-else-place-s c =
-    sweeps_none c.args.s.now _ _ _ (slice_bytes c.args.s.now c.type_inv.s) c.loop-lo.invariant c.requires.1 c.loop-lo-test.false c.if-place-s.false
+pub returns-2 : goal.returns-2
+returns-2 c =
+    let w = c.args.whole in
+    sweeps_all _ _ _ w.bytes (sweeps_next _ _ c.loop-lo.invariant c.sweep.ensures c.sooner-first.ensures) w.depth (omega arith)

@@ -1,10 +1,9 @@
-use Rattle.std.proofs.Common.{◌-◌, ◌≡◌, [], length}
-use Rattle.records.specs.Reading.{read_all}
-use Rattle.section.specs.Sweeps.{stray_in}
+use Rattle.std.proofs.Common.{◌-◌, ◌≡◌}
+use Rattle.section.specs.Sweeps.{stray_at}
 use Rattle.section.proofs.parents.find_stray.Given as goal
 
 abbrev pub invariant-loop-lo : goal.invariant-loop-lo
-invariant-loop-lo l = l.place ≡ stray_in 0 l.lo (length l.s) 0 [] (read_all l.s).recs
+invariant-loop-lo l = l.first ≡ stray_at 0 l.lo l.whole.stream.now
 
 abbrev pub decreases-loop-lo : goal.decreases-loop-lo
-decreases-loop-lo l = 1024 - l.lo
+decreases-loop-lo l = 1224 - l.lo

@@ -1,30 +1,27 @@
-use Rattle.std.proofs.Common.{arith, sym}
-use Rattle.numbers.proofs.LittleLaws.{slice_bytes}
-use Rattle.paragraph.proofs.StreamLaws.{Read, read_at, none_at}
+use Rattle.paragraph.proofs.StepLaws.{Stepped, stepped}
 use Rattle.writing.proofs.BehindLaws.{behind_stop, behind_over, behind_go}
-use Rattle.records.proofs.ReadingLaws.{not_record}
 use Rattle.writing.proofs.behind.put_behind.Goals as goal
-
-pub returns-in_default : goal.returns-in_default
-returns-in_default c =
-    behind_stop c.loop-r.invariant (none_at c.args.s.now c.loop-r.place.0 _ c.record_at.ensures (not_record _ c.in_default.not-Record)) c.put_rest.ensures
-
-pub returns-then-r-n : goal.returns-then-r-n
-returns-then-r-n c =
-    let d : Read c.args.s.now c.loop-r.place.0 c.in-Record.r = read_at _ _ (slice_bytes c.args.s.now c.type_inv.s) _ (sym c.in-Record.ensures) in
-    behind_over c.loop-r.invariant d c.if-r-n.true c.put_rest-then-r-n.ensures
-
-pub controls_passed-nth-requires : goal.controls_passed-nth-requires
-controls_passed-nth-requires c =
-    let d : Read c.args.s.now c.loop-r.place.0 c.in-Record.r = read_at _ _ (slice_bytes c.args.s.now c.type_inv.s) _ (sym c.in-Record.ensures) in
-    omega (arith, c.loop-r.invariant.small, d.stands.inside, d.least)
-
-pub loop-r-smaller : goal.loop-r-smaller
-loop-r-smaller c =
-    let d : Read c.args.s.now c.loop-r.place.0 c.in-Record.r = read_at _ _ (slice_bytes c.args.s.now c.type_inv.s) _ (sym c.in-Record.ensures) in
-    omega (arith, d.next-is, d.stands.inside, d.least)
+use Rattle.writing.proofs.behind.put_behind.Goals.{in-None, in-Some+then-r-n}
 
 pub loop-r-preserved : goal.loop-r-preserved
 loop-r-preserved c =
-    let d : Read c.args.s.now c.loop-r.place.0 c.in-Record.r = read_at _ _ (slice_bytes c.args.s.now c.type_inv.s) _ (sym c.in-Record.ensures) in
-    behind_go c.loop-r.invariant d c.if-r-n.false c.body.ensures c.put_below-p.ensures c.controls_passed-nth.ensures
+    let k : Stepped c.args.s.bytes.now c.loop-r.r-iterator c.next.new.self c.in-Some.r = stepped c.args.s.each c.loop-r.invariant.stream-is c.in-Some.ensures.steps in
+    let level-is = c.loop-r.invariant.level-is in
+    record {
+      stream-is = k.stream-is;
+      at-is = k.at-is;
+      level-is = level-is;
+      behind =
+          behind_go c.loop-r.invariant.behind (rw c.loop-r.invariant.at-is at k.read) c.if-r-n.false c.piece_of.ensures (rw level-is at c.put_below.ensures)
+          (rw level-is at c.controls_passed.ensures);
+    }
+
+pub returns : goal.returns
+returns c =
+    elim c.match-next.branch [
+      | in-None w ↦
+          behind_stop c.loop-r.invariant.behind (rw (c.loop-r.invariant.stream-is, c.loop-r.invariant.at-is) at w.in-None.ensures.steps.0) c.put_rest.ensures
+      | in-Some+then-r-n w ↦
+          let k : Stepped c.args.s.bytes.now c.loop-r.r-iterator c.next.new.self w.in-Some.r = stepped c.args.s.each c.loop-r.invariant.stream-is w.in-Some.ensures.steps in
+          behind_over c.loop-r.invariant.behind (rw c.loop-r.invariant.at-is at k.read) w.if-r-n.true c.put_rest.ensures
+    ]

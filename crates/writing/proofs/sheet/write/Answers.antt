@@ -1,22 +1,21 @@
-use Rattle.std.proofs.Common.{arith}
-use Rattle.putting.proofs.PuttingLaws.{puts_as, puts_none}
-use Rattle.writing.specs.Sheet.{field_of}
+use Rattle.std.proofs.Common.{arith, rules}
+use Rattle.putting.proofs.PuttingLaws.{puts_none}
+use Rattle.changing.specs.Child.{field_at}
 use Rattle.writing.proofs.SheetLaws.{over_stream, over_value, sheet_of_lem}
 use Rattle.writing.proofs.sheet.write.Goals as goal
 
-pub returns-then-s-gt4294967295 : goal.returns-then-s-gt4294967295
-returns-then-s-gt4294967295 c =
-    puts_as (over_stream (field_of c.args.ordinal c.args.a.0 c.args.b.0) c.args.value.now c.args.s.now c.args.header.0 c.if-s-gt4294967295.true)
-    (puts_none _ _ (omega arith) (omega arith))
+pub returns-in_default : goal.returns-in_default
+returns-in_default c =
+    rw (← over_stream (field_at c.args.spot) c.args.value.now c.args.s.now c.args.header.0 c.in_default.ensures) (puts_none _ _ (omega arith) (omega arith))
 
-pub returns-then-value-gt4294967295 : goal.returns-then-value-gt4294967295
-returns-then-value-gt4294967295 c =
-    puts_as
-    (over_value (field_of c.args.ordinal c.args.a.0 c.args.b.0) c.args.value.now c.args.s.now c.args.header.0 c.if-s-gt4294967295.false c.if-value-gt4294967295.true)
+pub returns-in_default-of : goal.returns-in_default-of
+returns-in_default-of c =
+    rw (← over_value (field_at c.args.spot) c.args.value.now c.args.s.now c.args.header.0 (rw c.in-Some.ensures at c.in-Some.s.narrow) c.in_default-of.ensures)
     (puts_none _ _ (omega arith) (omega arith))
 
 pub returns : goal.returns
 returns c =
-    puts_as
-    (sheet_of_lem (field_of c.args.ordinal c.args.a.0 c.args.b.0) c.args.value.now c.args.s.now c.args.header.0 c.if-s-gt4294967295.false c.if-value-gt4294967295.false)
-    c.put_sheet-end.ensures
+    let p =
+    rw (sheet_of_lem (field_at c.args.spot) c.in-Some-of.value.bytes.now c.in-Some.s.bytes.now c.args.header.0 c.in-Some.s.narrow c.in-Some-of.value.narrow, c.in-Some.ensures, c.in-Some-of.ensures)
+    at c.put_sheet.ensures.puts in
+    search (rules, p)
